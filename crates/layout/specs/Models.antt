@@ -1,0 +1,7 @@
+-- A Task as a model.
+use lib.ListN.{take}
+use Rattle.layout.specs.declared.task.Task.{Task}
+use Rattle.layout.specs.Tasks.{Model, given}
+
+abbrev pub model : Task → Model
+model t = given (t .length) (t .width) (take (t .count) (t .kinds))

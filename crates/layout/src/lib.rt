@@ -1,0 +1,6 @@
+// The vocabulary of the cutting office: panels, kinds, rows, refusals and tasks.
+mod making;
+pub mod panel;
+pub mod refusal;
+pub mod row;
+pub mod task;

@@ -1,0 +1,76 @@
+// The constructor of a task.
+ghost use Prim.Native.Nat.{_≤_};
+ghost use mathlib.Core.Path.{_≡_};
+ghost use mathlib.Core.List.{_++_};
+ghost use lib.ListN.{length as size, drop};
+ghost use Rattle.std.specs.Orderings.{When};
+ghost use Rattle.std.specs.Vec.{made};
+ghost use Rattle.layout.specs.Limits.{EachKind, SomeKind, LawfulSides, LawfulValue, BadSides, BadValue};
+ghost use Rattle.layout.specs.Refusals.{Answered};
+ghost use Rattle.layout.specs.Tasks.{WithinLimits, given, task-cause};
+ghost use Rattle.layout.specs.Models.{model};
+use crate::panel::{GREATEST_SIDE, GREATEST_VALUE, Kind, LEAST_SIDE, MOST_KINDS, NO_KIND};
+use crate::refusal::Refusal;
+use crate::task::Task;
+
+fn sides_are_lawful(kinds: &[Kind]) -> bool
+    ensures { λ r. ⌜ When r (EachKind LawfulSides (now (kinds .entry))) (SomeKind BadSides (now (kinds .entry))) ⌝ }
+{
+    for k in kinds {
+        if k.panel.length < LEAST_SIDE || k.panel.length > GREATEST_SIDE || k.panel.width < LEAST_SIDE || k.panel.width > GREATEST_SIDE {
+            return false;
+        }
+    }
+    true
+}
+
+fn values_are_lawful(kinds: &[Kind]) -> bool
+    ensures { λ r. ⌜ When r (EachKind LawfulValue (now (kinds .entry))) (SomeKind BadValue (now (kinds .entry))) ⌝ }
+{
+    for k in kinds {
+        if k.value < 1 || k.value > GREATEST_VALUE {
+            return false;
+        }
+    }
+    true
+}
+
+fn copy_kinds(from: &[Kind], to: &mut [Kind])
+    requires { ⌜ size (now from) ≤ size (now to) ⌝ }
+    ensures { λ _. ⌜ now (to .exit) ≡ now (from .entry) ++ drop (size (now (from .entry))) (now (to .entry)) ⌝ }
+{
+    to[0..from.len()].copy_from_slice(from);
+}
+
+impl Task {
+    // The task of a plate and some kinds. All kinds are looked at before a refusal is chosen, also those past the last place.
+    pub fn new(length: u16, width: u16, kinds: &[Kind]) -> Result<Task, Refusal>
+        ensures answer { λ r. ⌜ Answered (task-cause (given length width (now (kinds .entry)))) r ⌝ }
+        ensures task { λ r. ⌜ made r (λ t. model t ≡ given length width (now (kinds .entry))) ⌝ }
+    {
+        if length > GREATEST_SIDE || width > GREATEST_SIDE || !sides_are_lawful(kinds) {
+            return Err(Refusal::Side);
+        }
+        if !values_are_lawful(kinds) {
+            return Err(Refusal::Value);
+        }
+        if kinds.len() > MOST_KINDS {
+            return Err(Refusal::TooMany);
+        }
+        let mut table = [NO_KIND; 32];
+        copy_kinds(kinds, &mut table);
+        Ok(Task {
+            length,
+            width,
+            count: kinds.len() as u8,
+            kinds: table,
+        })
+    }
+    // The kinds of the task, by their number. They and the plate keep to the limits, whichever task it is.
+    pub fn kinds(&self) -> &[Kind]
+        ensures kinds { λ r. ⌜ now r ≡ model (now (self .entry)) .kinds ⌝ }
+        ensures limits { λ _. ⌜ WithinLimits (model (now (self .entry))) ⌝ }
+    {
+        &self.kinds[0..self.count as usize]
+    }
+}

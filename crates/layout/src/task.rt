@@ -1,0 +1,20 @@
+// The task: a plate and the kinds that may be laid on it. This file cites only specs that do not name Task.
+ghost use Prim.Native.Nat.{_≤_};
+ghost use lib.ListN.{take};
+ghost use Rattle.layout.specs.Limits.{Places, EachKind, LawfulSides, LawfulValue};
+use crate::panel::Kind;
+
+// No task outside the limits can exist: each place where one is made has to prove the ghost fields.
+#[derive(Clone, Copy)]
+pub struct Task {
+    pub length: u16,
+    pub width: u16,
+    // how many of the places have a kind
+    pub count: u8,
+    pub kinds: [Kind; 32],
+    ghost plate: { (length ≤ 3200) × (width ≤ 3200) },
+    ghost places: { Places kinds },
+    ghost few: { count ≤ 32 },
+    ghost sides: { EachKind LawfulSides (take count kinds) },
+    ghost values: { EachKind LawfulValue (take count kinds) },
+}
