@@ -9,7 +9,12 @@ ghost use Rattle.layout.specs.Limits.{EachKind, SomeKind, LawfulSides, LawfulV
 ghost use Rattle.layout.specs.Refusals.{Answered};
 ghost use Rattle.layout.specs.Tasks.{WithinLimits, given, task-cause};
 ghost use Rattle.layout.specs.Models.{model};
-use crate::panel::{GREATEST_SIDE, GREATEST_VALUE, Kind, LEAST_SIDE, MOST_KINDS, NO_KIND};
+use crate::panel::GREATEST_SIDE;
+use crate::panel::GREATEST_VALUE;
+use crate::panel::Kind;
+use crate::panel::LEAST_SIDE;
+use crate::panel::MOST_KINDS;
+use crate::panel::NO_KIND;
 use crate::refusal::Refusal;
 use crate::task::Task;
 
@@ -17,7 +22,11 @@ fn sides_are_lawful(kinds: &[Kind]) -> bool
     ensures { λ r. ⌜ When r (EachKind LawfulSides (now (kinds .entry))) (SomeKind BadSides (now (kinds .entry))) ⌝ }
 {
     for k in kinds {
-        if k.panel.length < LEAST_SIDE || k.panel.length > GREATEST_SIDE || k.panel.width < LEAST_SIDE || k.panel.width > GREATEST_SIDE {
+        if k.panel.length < LEAST_SIDE
+            || k.panel.length > GREATEST_SIDE
+            || k.panel.width < LEAST_SIDE
+            || k.panel.width > GREATEST_SIDE
+        {
             return false;
         }
     }
