@@ -1,0 +1,46 @@
+-- The fields of a line.
+use mathlib.Core.Path.{_≡_}
+use mathlib.Core.Bool.{Bool, true, false}
+use mathlib.Core.List.{List, [], _∷_, _++_}
+use Prim.Native.Nat.{ℕ, _^_, _<_}
+use Rattle.std.specs.Text.{In}
+use Rattle.std.specs.Written.{decimal}
+use Rattle.text.specs.declared.fields.End.{End}
+use Rattle.text.specs.declared.fields.End.the-variants.{Blank, Line}
+
+-- a line: its first field, each other field after one blank, and byte 10
+abbrev pub line : List ℕ → List (List ℕ) → List ℕ
+line f [] = f ++ (10 ∷ [])
+line f (g ∷ gs) = f ++ (32 ∷ line g gs)
+
+-- the byte after a field: a blank inside a line, byte 10 at its end
+abbrev pub mark : End → ℕ
+mark Blank = 32
+mark Line = 10
+
+-- `t` for what may turn, else `n`
+abbrev pub letter : Bool → ℕ
+letter true = 116
+letter false = 110
+
+-- a number of at most seven digits
+abbrev pub SevenDigits : ℕ → Type 0
+SevenDigits n = n < 10 ^ 7
+
+-- the texts of a fixed word
+abbrev pub Word : List ℕ → List ℕ → Type 0
+Word w t = t ≡ w
+
+-- a number of at most seven digits, written without a needless zero, and the mark after it
+abbrev pub Number : ℕ → List ℕ → Type 0
+Number m t = (n : ℕ) × SevenDigits n × (t ≡ decimal n ++ (m ∷ []))
+
+-- `n` or `t`
+abbrev pub Turn : List ℕ → Type 0
+Turn t = (b : Bool) × (t ≡ letter b ∷ [])
+
+-- the byte b is a digit that can stand next in a number v of k digits so far
+pub record More (k v b : ℕ) : Type 0 where
+  pub room : k < 7
+  pub plain : 0 < k → v ≡ 0 → ⊥
+  pub digit : In 48 57 b
