@@ -3,6 +3,9 @@ use orders::judge::judge;
 use std::io;
 use std::io::Read;
 
+#[cfg(test)]
+mod tests;
+
 fn main(rt: LibcRuntime) -> io::Result<()> {
     let heap = rt.alloc();
     let mut text = Vec::new(heap);

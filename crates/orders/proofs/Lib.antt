@@ -2,4 +2,4 @@ mod LineParts
 mod Whole
 mod Spots
 mod Unique
-mod Reports
+mod Sums

@@ -15,7 +15,7 @@ use Rattle.text.specs.Fields.{letter}
 use Rattle.text.proofs.Codes.{same-rest}
 use Rattle.text.proofs.Parts.{same-number, same-turn}
 use Rattle.orders.specs.Lines.{job-line, item-line, ShortHead, ShortItem}
-use Rattle.orders.specs.Orders.{item-lines, text-of, TextOf, Lawful, Fitting, FaultAfter}
+use Rattle.orders.specs.Orders.{item-lines, TextOf, Lawful, Fitting, FaultAfter, ReadAs, FaultOnly}
 use Rattle.orders.specs.declared.order.Head.{Head}
 use Rattle.orders.specs.declared.order.Item.{Item}
 
@@ -28,7 +28,7 @@ item-open : (i : Item) (x : List ℕ)
     → item-line i ++ x ≡ codes "item " ++ (decimal (i .length) ++ (32 ∷ (decimal (i .width) ++ (32 ∷ (letter (i .«may_turn») ∷ (32 ∷ (decimal (i .value) ++ (32 ∷ (decimal (i .ordered) ++ (10 ∷ x))))))))))
 item-open i x = simp append-assoc
 
-pub same-job : (h k : Head) (x y : List ℕ) → ShortHead h → ShortHead k → job-line h ++ x ≡ job-line k ++ y → (h ≡ k) × (x ≡ y)
+same-job : (h k : Head) (x y : List ℕ) → ShortHead h → ShortHead k → job-line h ++ x ≡ job-line k ++ y → (h ≡ k) × (x ≡ y)
 same-job h k x y sh sk e =
     let a = same-number Blank (h .job) (k .job) _ _ (sh .job) (sk .job) (same-rest (codes "job ") _ _ (sym (job-open h x) ∙ e ∙ job-open k y)) in
     let b = same-number Blank (h .length) (k .length) _ _ (sh .length) (sk .length) (a .1) in
@@ -39,7 +39,7 @@ same-job h k x y sh sk e =
     (record { job = k .job; length = k .length; width = k .width; saw = k .saw; trim = k .trim }) = cc (a .0, b .0, c .0, d .0, l .0) in
     (e, l .1)
 
-pub same-item : (i k : Item) (x y : List ℕ) → ShortItem i → ShortItem k → item-line i ++ x ≡ item-line k ++ y → (i ≡ k) × (x ≡ y)
+same-item : (i k : Item) (x y : List ℕ) → ShortItem i → ShortItem k → item-line i ++ x ≡ item-line k ++ y → (i ≡ k) × (x ≡ y)
 same-item i k x y si sk e =
     let a = same-number Blank (i .length) (k .length) _ _ (si .length) (sk .length) (same-rest (codes "item ") _ _ (sym (item-open i x) ∙ e ∙ item-open k y)) in
     let b = same-number Blank (i .width) (k .width) _ _ (si .width) (sk .width) (a .1) in
@@ -60,7 +60,7 @@ same-items (i ∷ is) (k ∷ ks) si sk e =
     cc (s .0, r)
 
 -- the order of a text is one
-pub same-order : (t : List ℕ) (h k : Head) (is ks : List Item) → TextOf h is t → TextOf k ks t → (h ≡ k) × (is ≡ ks)
+same-order : (t : List ℕ) (h k : Head) (is ks : List Item) → TextOf h is t → TextOf k ks t → (h ≡ k) × (is ≡ ks)
 same-order t h k is ks p q =
     let s = same-job h k (item-lines is) (item-lines ks) (p .short-head) (q .short-head) (sym (p .text) ∙ q .text) in
     (s .0, same-items is ks (p .short-items) (q .short-items) (s .1))
@@ -73,7 +73,7 @@ begins-shorter t n m le (r, l) =
     (drop n (take m t) ++ r, subst Lawful parts l)
 
 -- a text that is lawful has no fault after n bytes unless it is too long
-pub not-lawful-at : (t : List ℕ) (n : ℕ) → FaultAfter t n → Lawful t → Fitting t → ⊥
+not-lawful-at : (t : List ℕ) (n : ℕ) → FaultAfter t n → Lawful t → Fitting t → ⊥
 not-lawful-at t n f l fits =
     let whole : n ≡ length t → ⊥ = λ e. f .early e l in
     let front : n < length t → ⊥ = λ lt. f .cannot lt (omega (arith, lt, fits)) (drop (n + 1) t, subst Lawful (sym (take-append-drop (n + 1) t)) l) in
@@ -83,8 +83,14 @@ earlier : (t : List ℕ) (n m : ℕ) → FaultAfter t n → FaultAfter t m → n
 earlier t n m f g lt = f .cannot (omega (arith, g .within, lt)) (omega (arith, g .limit, lt)) (begins-shorter t (n + 1) m (omega (arith, lt)) (g .could))
 
 -- the fault of a text is one
-pub same-fault : (t : List ℕ) (n m : ℕ) → FaultAfter t n → FaultAfter t m → n ≡ m
+same-fault : (t : List ℕ) (n m : ℕ) → FaultAfter t n → FaultAfter t m → n ≡ m
 same-fault t n m f g =
     let less : n < m → ⊥ = earlier t n m f g in
     let more : m < n → ⊥ = earlier t m n g f in
     grind (arith, less, more)
+
+pub read-as : (t : List ℕ) (h : Head) (is : List Item) → Fitting t → TextOf h is t → ReadAs h is t
+read-as t h is fits says = record { fitting = fits; says = says; only = λ k ks other. same-order t k h ks is other says }
+
+pub fault-only : (t : List ℕ) (n : ℕ) → FaultAfter t n → FaultOnly t n
+fault-only t n f = record { fault = f; only = λ m other. same-fault t m n other f; refused = not-lawful-at t n f }

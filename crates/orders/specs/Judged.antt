@@ -11,15 +11,14 @@ use Rattle.text.specs.Bad.{bad-line}
 use Rattle.text.specs.Places.{line-after, column-after}
 use Rattle.orders.specs.declared.order.Head.{Head}
 use Rattle.orders.specs.declared.order.Item.{Item}
-use Rattle.orders.specs.Orders.{TextOf, Fitting, FaultAfter}
+use Rattle.orders.specs.Orders.{ReadAs, FaultOnly}
 use Rattle.orders.specs.Printed.{order-line}
 
--- the text is that of an order and not too long: the order is restated
+-- the text is that of one order and not too long: the order is restated
 pub record Restated (t bytes : List ℕ) : Type 0 where
   pub head : Head
   pub items : List Item
-  pub says : TextOf head items t
-  pub fitting : Fitting t
+  pub read : ReadAs head items t
   pub printed : bytes ≡ order-line head items
 
 -- the bytes of a fault after n bytes of t: the number of bad text, with line and column
@@ -29,14 +28,10 @@ fault-line t n = bad-line (code-of Text) (line-after (take n t)) (column-after (
 -- the text is at fault: the line of its fault
 pub record Rejected (t bytes : List ℕ) : Type 0 where
   pub after : ℕ
-  pub fault : FaultAfter t after
+  pub fault : FaultOnly t after
   pub printed : bytes ≡ fault-line t after
 
 -- all bytes that are printed for t, and whether it is accepted
 abbrev pub Judged : List ℕ → List ℕ → Bool → Type 0
 Judged t bytes true = Restated t bytes
 Judged t bytes false = Rejected t bytes
-
--- no others are
-abbrev pub OnlyJudged : List ℕ → List ℕ → Bool → Type 0
-OnlyJudged t bytes accepted = (b : List ℕ) (a : Bool) → Judged t b a → (b ≡ bytes) × (a ≡ accepted)

@@ -1,29 +1,25 @@
 -- What reading an order text answers.
-use mathlib.Core.Path.{_≡_}
 use mathlib.Core.List.{List}
 use Prim.Native.Nat.{ℕ}
 use denote.Ref.{now}
 use Rattle.std.specs.Of.Vec.{vec-items}
-use Rattle.orders.specs.declared.order.Head.{Head}
-use Rattle.orders.specs.declared.order.Item.{Item}
 use Rattle.orders.specs.declared.order.Order.{Order}
 use Rattle.orders.specs.declared.unread.Stop.{Stop}
 use Rattle.orders.specs.declared.unread.Stop.the-variants as stop
 use Rattle.orders.specs.declared.unread.Unread.{Unread}
 use Rattle.orders.specs.declared.unread.Unread.the-variants as unread
-use Rattle.orders.specs.Orders.{TextOf, Faulty, Lawful, Fitting}
+use Rattle.orders.specs.Orders.{TextOf, ReadAs, Faulty, Lawful, Fitting}
 use Rattle.orders.specs.Places.{FaultyAt}
 
 -- t is the text of the order o
 abbrev pub Says : Order → List ℕ → Type 0
 Says o t = TextOf (o .head) (vec-items (o .items)) t
 
--- t is not too long, and is the text of the order o and of no other
-pub record SaysOnly (o : Order) (t : List ℕ) : Type 0 where
-  pub fitting : Fitting t
-  pub says : Says o t
-  pub only : (h : Head) (is : List Item) → TextOf h is t → (h ≡ o .head) × (is ≡ vec-items (o .items))
+-- t is the text of the order o and of no other, and not too long
+abbrev pub SaysOnly : Order → List ℕ → Type 0
+SaysOnly o t = ReadAs (o .head) (vec-items (o .items)) t
 
+-- a fault stops the reading where it stands; want of memory anywhere
 abbrev pub Stopped : Stop → List ℕ → Type 0
 Stopped (stop.Fault fault) t = Faulty t (now (fault .left))
 Stopped stop.Memory t = Unit {0}

@@ -1,4 +1,7 @@
 // Finds the first fault of an order text; needs no memory.
+ghost use Prim.Native.Nat.{min};
+ghost use mathlib.Core.Path.{_≡_};
+ghost use lib.ListN.{length, take};
 ghost use Rattle.std.specs.Options.{Cases as BySome};
 ghost use Rattle.orders.specs.Orders.{Lawful, Faulty, Fitting};
 ghost use Rattle.orders.specs.Places.{FaultyAt};
@@ -27,16 +30,24 @@ fn left_at_fault<'a>(text: &'a [u8]) -> Option<&'a [u8]>
     None
 }
 
-// The place of the first fault; none where the text is lawful and not too long.
-pub fn first_fault(text: &[u8]) -> Option<Place>
-    ensures { λ r. ⌜ BySome r (Lawful (now (text .entry)) × Fitting (now (text .entry))) (λ p. FaultyAt p (now (text .entry))) ⌝ }
+// The bytes of a text that are within the limit of its length.
+fn within_limit<'a>(text: &'a [u8]) -> &'a [u8]
+    ensures size { λ r. ⌜ length (now r) ≡ min (length (now (text .entry))) 65536 ⌝ }
+    ensures front { λ r. ⌜ now r ≡ take (length (now r)) (now (text .entry)) ⌝ }
 {
     let size = text.len().min(MOST_BYTES);
-    let front = &text[0..size];
+    &text[0..size]
+}
+
+// The place of the first fault; none where the text is lawful and not too long.
+pub(crate) fn first_fault(text: &[u8]) -> Option<Place>
+    ensures { λ r. ⌜ BySome r (Lawful (now (text .entry)) × Fitting (now (text .entry))) (λ p. FaultyAt p (now (text .entry))) ⌝ }
+{
+    let front = within_limit(text);
     match left_at_fault(front) {
-        Some(left) => Some(place_after(&front[0..size - left.len()])),
+        Some(left) => Some(place_after(&front[0..front.len() - left.len()])),
         None => {
-            if size < text.len() {
+            if front.len() < text.len() {
                 Some(place_after(front))
             } else {
                 None

@@ -6,7 +6,7 @@ ghost use Rattle.std.specs.Vec.{made};
 ghost use Rattle.std.specs.shelf.Lists.{All};
 ghost use Rattle.orders.specs.Lines.{ShortItem};
 ghost use Rattle.orders.specs.Printed.{Few, Appended, pieces-of, head-words, count-words, order-line};
-ghost use Rattle.orders.specs.Judged.{Judged, OnlyJudged};
+ghost use Rattle.orders.specs.Judged.{Judged};
 use crate::order::Head;
 use crate::order::Item;
 use crate::read::read_order;
@@ -72,8 +72,7 @@ fn push_order(out: &mut String, head: Head, items: &[Item]) -> fmt::Result
 
 // The report on a text: the order on one line, or the line of the text's first fault.
 pub fn judge(heap: Global, text: &[u8]) -> Result<Report, AllocError>
-    ensures report { λ r. ⌜ made r (λ s. Judged (now (text .entry)) (string-bytes (s .bytes)) (s .accepted)) ⌝ }
-    ensures only { λ r. ⌜ made r (λ s. OnlyJudged (now (text .entry)) (string-bytes (s .bytes)) (s .accepted)) ⌝ }
+    ensures { λ r. ⌜ made r (λ s. Judged (now (text .entry)) (string-bytes (s .bytes)) (s .accepted)) ⌝ }
 {
     match read_order(heap, text) {
         Ok(order) => {

@@ -12,7 +12,7 @@ use text::fields::number;
 use text::fields::turn;
 use text::fields::word;
 
-pub fn job_line<'a>(text: &'a [u8]) -> Result<(Head, &'a [u8]), Fault<'a>>
+pub(crate) fn job_line<'a>(text: &'a [u8]) -> Result<(Head, &'a [u8]), Fault<'a>>
     ensures { λ r. ⌜ Cases r (λ x. ShortHead (x .0) × (now (text .entry) ≡ job-line (x .0) ++ now (x .1))) (λ f. Stops JobLine (now (text .entry)) (now (f .left))) ⌝ }
 {
     let rest = word(text, b"job ")?;
@@ -31,7 +31,7 @@ pub fn job_line<'a>(text: &'a [u8]) -> Result<(Head, &'a [u8]), Fault<'a>>
     Ok((head, rest))
 }
 
-pub fn item_line<'a>(text: &'a [u8]) -> Result<(Item, &'a [u8]), Fault<'a>>
+pub(crate) fn item_line<'a>(text: &'a [u8]) -> Result<(Item, &'a [u8]), Fault<'a>>
     ensures { λ r. ⌜ Cases r (λ x. ShortItem (x .0) × (now (text .entry) ≡ item-line (x .0) ++ now (x .1))) (λ f. Stops ItemLine (now (text .entry)) (now (f .left))) ⌝ }
 {
     let rest = word(text, b"item ")?;

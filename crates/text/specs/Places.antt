@@ -1,5 +1,5 @@
 -- The place just past some bytes: line and column, counted from 1.
-use mathlib.Core.Bool.{Bool, not}
+use mathlib.Core.Bool.{Bool, not, cond}
 use mathlib.Core.List.{List}
 use Prim.Native.Nat.{ℕ, _+_}
 use lib.Dec.{eqb}
@@ -15,3 +15,10 @@ line-after before = 1 + countBy ends-line before
 -- one more than the bytes since the last line ended
 abbrev pub column-after : List ℕ → ℕ
 column-after before = 1 + ending (λ b. not (ends-line b)) before
+
+-- how line and column go on with one byte more
+abbrev pub next-line : ℕ → ℕ → ℕ
+next-line line byte = cond (ends-line byte) (line + 1) line
+
+abbrev pub next-column : ℕ → ℕ → ℕ
+next-column column byte = cond (ends-line byte) 1 (column + 1)

@@ -64,19 +64,19 @@ pub fn number<'a>(text: &'a [u8], end: End) -> Result<(u32, &'a [u8]), Fault<'a>
     let last = mark_of(end);
     let mut value = 0u32;
     let mut digits = 0u8;
-    let mut rest = text;
-    while let Some((byte, tail)) = rest.split_first() {
+    let mut left = text;
+    while let Some((byte, tail)) = left.split_first() {
         if digits > 0 && *byte == last {
             return Ok((value, tail));
         }
         if !goes_on(value, digits, *byte) {
-            return Err(Fault { left: rest });
+            return Err(Fault { left });
         }
         value = value * 10 + u32::from(*byte - b'0');
         digits += 1;
-        rest = tail;
+        left = tail;
     }
-    Err(Fault { left: rest })
+    Err(Fault { left })
 }
 
 // Whether a piece may turn: `t` or `n`.

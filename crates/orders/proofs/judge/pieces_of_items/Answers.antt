@@ -5,7 +5,7 @@ use Rattle.std.proofs.shelf.Lists.{take-all}
 use Rattle.std.proofs.shelf.Sums.{sumBy-more}
 use Rattle.orders.specs.Printed.{pieces-of}
 use Rattle.orders.specs.declared.order.Item.{Item}
-use Rattle.orders.proofs.Reports.{no-item, pieces-fit}
+use Rattle.orders.proofs.Sums.{no-item, pieces-fit}
 use Rattle.orders.proofs.judge.pieces_of_items.Needs as need
 
 pub add-pieces : need.add-pieces

@@ -1,33 +1,25 @@
-use mathlib.Core.Path.{_≡_, refl, sym, ap, subst, _∙_}
-use Prim.Native.Nat.{_+_}
-use native.Mathlib.Omega.{arith}
-use lib.ListN.{length, take}
+use mathlib.Core.Path.{_≡_, sym, ap, subst, _∙_}
+use Prim.Native.Nat.{_+_, _≤_}
+use lib.ListN.{getD}
 use Rattle.std.proofs.shelf.Lists.{take-all}
-use Rattle.text.specs.Places.{line-after, column-after}
-use Rattle.text.proofs.Lines.{line-next, line-stays, column-first, column-next}
+use Rattle.text.specs.Places.{line-after, column-after, next-line, next-column}
+use Rattle.text.proofs.Lines.{line-more, column-more, line-slow, column-slow}
 use Rattle.text.proofs.place.place_after.Needs as need
-use Rattle.text.proofs.place.place_after.Needs.{then-byte-eq10, else-byte-eq10}
 
 pub loop-byte-again : need.loop-byte-again
 loop-byte-again c =
     let s = c .args .before .now in
     let i = c .loop-byte .byte-index in
+    let b = getD s i 0 in
     let h = c .loop-byte-test .taken in
     let v = c .loop-byte .inv in
-    elim (c .if-byte-eq10 .came) [
-      | then-byte-eq10 w ↦ (
-        w .line-is ∙ ap (λ n. n + 1) (v .0) ∙ sym (line-next s i h (w .if-byte-eq10 .taken)),
-        w .column-is ∙ sym (column-first s i h (w .if-byte-eq10 .taken)),
-        omega (arith, w .line-is, v .2),
-        omega (arith, w .column-is),
-      )
-      | else-byte-eq10 w ↦ (
-        w .line-is ∙ v .0 ∙ sym (line-stays s i h (w .if-byte-eq10 .left)),
-        w .column-is ∙ ap (λ n. n + 1) (v .1) ∙ sym (column-next s i h (w .if-byte-eq10 .left)),
-        omega (arith, w .line-is, v .2),
-        omega (arith, w .column-is, v .3),
-      )
-    ]
+    let line = c .next-place-place .ensures .line in
+    let column = c .next-place-place .ensures .column in (
+      line ∙ ap (λ n. next-line n b) (v .0) ∙ sym (line-more s i h),
+      column ∙ ap (λ n. next-column n b) (v .1) ∙ sym (column-more s i h),
+      subst (λ n. n ≤ i + 1 + 1) (sym line) (line-slow _ b (i + 1) (v .2)),
+      subst (λ n. n ≤ i + 1 + 1) (sym column) (column-slow _ b (i + 1) (v .3)),
+    )
 
 pub returns : need.returns
 returns c =

@@ -1,4 +1,4 @@
--- The sum of the ordered numbers, and the reports on a text.
+-- The sum of the ordered numbers.
 use mathlib.Core.Path.{_≡_, refl, sym, ap, subst, _∙_}
 use mathlib.Core.Bool.{Bool, true, false}
 use mathlib.Core.List.{List, [], _∷_, _++_}
@@ -11,11 +11,9 @@ use Rattle.std.proofs.shelf.Elements.{all-weaker}
 use Rattle.std.proofs.shelf.Sums.{sumBy-more, sumBy-take-le, sumBy-le}
 use Rattle.orders.specs.declared.order.Head.{Head}
 use Rattle.orders.specs.declared.order.Item.{Item}
-use Rattle.orders.specs.Lines.{ShortItem, item-line, job-line}
-use Rattle.orders.specs.Orders.{TextOf, Fitting, FaultAfter, item-lines}
-use Rattle.orders.specs.Printed.{Few, pieces-of, order-line}
-use Rattle.orders.specs.Judged.{Restated, Rejected, Judged, OnlyJudged, fault-line}
-use Rattle.orders.proofs.Unique.{same-order, same-fault, not-lawful-at}
+use Rattle.orders.specs.Lines.{ShortItem}
+use Rattle.orders.specs.Orders.{TextOf, Fitting, item-lines}
+use Rattle.orders.specs.Printed.{Few, pieces-of}
 
 -- what stands past the end of a list of items
 abbrev pub no-item : Item
@@ -38,16 +36,3 @@ long-lines (i ∷ is) = simp length-append (omega (arith, long-lines is))
 
 pub few-items : (t : List ℕ) (h : Head) (is : List Item) → TextOf h is t → Fitting t → Few is
 few-items t h is says fits = omega (arith, fits, long-lines is, simp length-append at (ap length (says .text)))
-
--- a text has one report
-never-both : (t : List ℕ) (b c : List ℕ) → Restated t b → Rejected t c → ⊥
-never-both t b c p q = not-lawful-at t (q .after) (q .fault) (p .head, p .items, p .says) (p .fitting)
-
-pub only-judged : (t bytes : List ℕ) (accepted : Bool) → Judged t bytes accepted → OnlyJudged t bytes accepted
-only-judged t bytes true p b true q =
-    let s = same-order t (q .head) (p .head) (q .items) (p .items) (q .says) (p .says) in
-    (q .printed ∙ ap (λ h. order-line h (q .items)) (s .0) ∙ ap (order-line (p .head)) (s .1) ∙ sym (p .printed), refl)
-only-judged t bytes true p b false q = absurd (never-both t bytes b p q)
-only-judged t bytes false p b true q = absurd (never-both t b bytes q p)
-only-judged t bytes false p b false q =
-    (q .printed ∙ ap (fault-line t) (same-fault t (q .after) (p .after) (q .fault) (p .fault)) ∙ sym (p .printed), refl)
