@@ -9,7 +9,7 @@ use Rattle.orders.specs.declared.unread.Stop.the-variants as stop
 use Rattle.orders.specs.declared.unread.Unread.{Unread}
 use Rattle.orders.specs.declared.unread.Unread.the-variants as unread
 use Rattle.orders.specs.Orders.{TextOf, ReadAs, Faulty, Lawful, Fitting}
-use Rattle.orders.specs.Places.{FaultyAt}
+use Rattle.orders.specs.Places.{bad-text, FaultyAt}
 
 -- t is the text of the order o
 abbrev pub Says : Order → List ℕ → Type 0
@@ -26,5 +26,5 @@ Stopped stop.Memory t = Unit {0}
 
 -- a fault is answered by its place; want of memory only where there is none
 abbrev pub UnreadBy : Unread → List ℕ → Type 0
-UnreadBy (unread.Fault place) t = FaultyAt place t
+UnreadBy (unread.Fault place) t = FaultyAt (bad-text place) t
 UnreadBy unread.Memory t = Lawful t × Fitting t

@@ -4,7 +4,7 @@ ghost use mathlib.Core.Path.{_≡_};
 ghost use lib.ListN.{length, take};
 ghost use Rattle.std.specs.Options.{Cases as BySome};
 ghost use Rattle.orders.specs.Orders.{Lawful, Faulty, Fitting};
-ghost use Rattle.orders.specs.Places.{FaultyAt};
+ghost use Rattle.orders.specs.Places.{bad-text, FaultyAt};
 use crate::lines::item_line;
 use crate::lines::job_line;
 use text::place::Place;
@@ -41,7 +41,7 @@ fn within_limit<'a>(text: &'a [u8]) -> &'a [u8]
 
 // The place of the first fault; none where the text is lawful and not too long.
 pub(crate) fn first_fault(text: &[u8]) -> Option<Place>
-    ensures { λ r. ⌜ BySome r (Lawful (now (text .entry)) × Fitting (now (text .entry))) (λ p. FaultyAt p (now (text .entry))) ⌝ }
+    ensures { λ r. ⌜ BySome r (Lawful (now (text .entry)) × Fitting (now (text .entry))) (λ p. FaultyAt (bad-text p) (now (text .entry))) ⌝ }
 {
     let front = within_limit(text);
     match left_at_fault(front) {

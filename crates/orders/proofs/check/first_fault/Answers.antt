@@ -1,4 +1,4 @@
-use mathlib.Core.Path.{_≡_, sym, ap, subst, _∙_}
+use mathlib.Core.Path.{_≡_, refl, ap, subst, _∙_}
 use Prim.Native.Nat.{ℕ, _-_, _≤_, _<_, min}
 use native.Mathlib.Omega.{arith}
 use lib.ListN.{length, take}
@@ -31,6 +31,7 @@ returns-in-Some c =
     record {
       after = n;
       fault = fault-only t n (at-fault t size least left faulty);
+      code = refl;
       line = c .place-after .ensures .line ∙ ap line-after same;
       column = c .place-after .ensures .column ∙ ap column-after same;
     }
@@ -44,6 +45,7 @@ returns-then-front-text c =
     record {
       after = size;
       fault = fault-only t size (too-long t size least (subst Lawful is-front (c .in-None .ensures tt)) (c .if-front-text .taken));
+      code = refl;
       line = c .place-after-then-front-text .ensures .line ∙ ap line-after is-front;
       column = c .place-after-then-front-text .ensures .column ∙ ap column-after is-front;
     }
