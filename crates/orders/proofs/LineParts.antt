@@ -7,8 +7,9 @@ use Rattle.std.specs.Written.{decimal}
 use Rattle.text.specs.declared.fields.End.the-variants.{Blank, Line}
 use Rattle.text.specs.Texts.{Stops}
 use Rattle.text.specs.Fields.{letter}
+use Rattle.text.specs.declared.fields.Letters.the-variants.{Turn}
 use Rattle.text.proofs.Codes.{Code, stops-same}
-use Rattle.text.proofs.Parts.{Part, word, number, turn, Parts, parts-code, with-word, with-number, with-turn, off-word, off-number, off-turn}
+use Rattle.text.proofs.Parts.{Part, word, number, choice, Parts, parts-code, with-number, with-choice, off-word, off-number, off-choice}
 use Rattle.orders.specs.Lines.{job-line, item-line, ShortHead, ShortItem, JobLine, ItemLine}
 use Rattle.orders.specs.declared.order.Head.{Head}
 use Rattle.orders.specs.declared.order.Item.{Item}
@@ -32,11 +33,8 @@ job-fields = number Blank ∷ last-four
 abbrev pub job-parts : List Part
 job-parts = word (codes "job ") ∷ job-fields
 
-abbrev pub from-blank : List Part
-from-blank = word (codes " ") ∷ last-two
-
 abbrev pub from-turn : List Part
-from-turn = turn ∷ from-blank
+from-turn = choice Turn Blank ∷ last-two
 
 abbrev pub from-width : List Part
 from-width = number Blank ∷ from-turn
@@ -91,15 +89,14 @@ item-from : (t : List ℕ) → ItemLine t → Parts item-parts t
 item-from t (i, s, e) =
     let l = decimal (i .ordered) ++ (10 ∷ []) in
     let d = decimal (i .value) ++ (32 ∷ l) in
-    let c = letter (i .«may_turn») ∷ (32 ∷ d) in
+    let c = letter Turn (i .«may_turn») ∷ (32 ∷ d) in
     let b = decimal (i .width) ++ (32 ∷ c) in
     let a = decimal (i .length) ++ (32 ∷ b) in
     let p = with-number Blank from-width (i .length) b (s .length)
     (with-number Blank from-turn (i .width) c (s .width)
-    (with-turn from-blank (i .«may_turn») (32 ∷ d)
-    (with-word (codes " ") last-two d
+    (with-choice Turn Blank last-two (i .«may_turn») d
     (with-number Blank last-one (i .value) l (s .value)
-    (with-number Line [] (i .ordered) [] (s .ordered) refl))))) in
+    (with-number Line [] (i .ordered) [] (s .ordered) refl)))) in
     (codes "item ", a, refl, p, e)
 
 item-to : (t : List ℕ) → Parts item-parts t → ItemLine t
@@ -107,9 +104,8 @@ item-to t parts =
     let w = off-word (codes "item ") item-fields t parts in
     let a = off-number Blank from-width (w .0) (w .1) in
     let b = off-number Blank from-turn (a .1) (a .3) in
-    let c = off-turn from-blank (b .1) (b .3) in
-    let k = off-word (codes " ") last-two (c .1) (c .2) in
-    let d = off-number Blank last-one (k .0) (k .1) in
+    let c = off-choice Turn Blank last-two (b .1) (b .3) in
+    let d = off-number Blank last-one (c .1) (c .2) in
     let l = off-number Line [] (d .1) (d .3) in
     let i : Item = record { length = a .0; width = b .0; «may_turn» = c .0; value = d .0; ordered = l .0 } in
     let n = l .3 in (
@@ -118,10 +114,9 @@ item-to t parts =
       w .2 ∙ ap (λ z. codes "item " ++ z)
           (a .4 ∙ ap (λ z. decimal (a .0) ++ (32 ∷ z))
           (b .4 ∙ ap (λ z. decimal (b .0) ++ (32 ∷ z))
-          (c .3 ∙ ap (λ z. letter (c .0) ∷ z)
-          (k .2 ∙ ap (λ z. codes " " ++ z)
+          (c .3 ∙ ap (λ z. letter Turn (c .0) ∷ (32 ∷ z))
           (d .4 ∙ ap (λ z. decimal (d .0) ++ (32 ∷ z))
-          (l .4 ∙ ap (λ z. decimal (l .0) ++ (10 ∷ z)) n)))))),
+          (l .4 ∙ ap (λ z. decimal (l .0) ++ (10 ∷ z)) n))))),
     )
 
 pub item-stops : {t left : List ℕ} → Stops (Parts item-parts) t left → Stops ItemLine t left
@@ -135,6 +130,6 @@ pub job-joined : (t r0 r1 r2 r3 r4 r5 : List ℕ) (h : Head) → t ≡ codes "jo
     → r3 ≡ decimal (h .saw) ++ (32 ∷ r4) → r4 ≡ decimal (h .trim) ++ (10 ∷ r5) → t ≡ job-line h ++ r5
 job-joined t r0 r1 r2 r3 r4 r5 h e0 e1 e2 e3 e4 e5 = simp append-assoc (cc)
 
-pub item-joined : (t r0 r1 r2 r3 r4 r5 r6 : List ℕ) (i : Item) → t ≡ codes "item " ++ r0 → r0 ≡ decimal (i .length) ++ (32 ∷ r1) → r1 ≡ decimal (i .width) ++ (32 ∷ r2) → r2 ≡ letter (i .«may_turn») ∷ r3
-    → r3 ≡ codes " " ++ r4 → r4 ≡ decimal (i .value) ++ (32 ∷ r5) → r5 ≡ decimal (i .ordered) ++ (10 ∷ r6) → t ≡ item-line i ++ r6
-item-joined t r0 r1 r2 r3 r4 r5 r6 i e0 e1 e2 e3 e4 e5 e6 = simp append-assoc (cc)
+pub item-joined : (t r0 r1 r2 r3 r4 r5 : List ℕ) (i : Item) → t ≡ codes "item " ++ r0 → r0 ≡ decimal (i .length) ++ (32 ∷ r1) → r1 ≡ decimal (i .width) ++ (32 ∷ r2) → r2 ≡ letter Turn (i .«may_turn») ∷ (32 ∷ r3)
+    → r3 ≡ decimal (i .value) ++ (32 ∷ r4) → r4 ≡ decimal (i .ordered) ++ (10 ∷ r5) → t ≡ item-line i ++ r5
+item-joined t r0 r1 r2 r3 r4 r5 i e0 e1 e2 e3 e4 e5 = simp append-assoc (cc)

@@ -12,8 +12,9 @@ use Rattle.std.proofs.shelf.Lists.{take-take}
 use Rattle.text.specs.declared.fields.End.the-variants.{Blank, Line}
 use Rattle.text.specs.Texts.{Begins}
 use Rattle.text.specs.Fields.{letter}
+use Rattle.text.specs.declared.fields.Letters.the-variants.{Turn}
 use Rattle.text.proofs.Codes.{same-rest}
-use Rattle.text.proofs.Parts.{same-number, same-turn}
+use Rattle.text.proofs.Parts.{same-number, same-choice}
 use Rattle.orders.specs.Lines.{job-line, item-line, ShortHead, ShortItem}
 use Rattle.orders.specs.Orders.{item-lines, TextOf, Lawful, Fitting, FaultAfter, ReadAs, FaultOnly}
 use Rattle.orders.specs.declared.order.Head.{Head}
@@ -25,7 +26,7 @@ job-open : (h : Head) (x : List ℕ)
 job-open h x = simp append-assoc
 
 item-open : (i : Item) (x : List ℕ)
-    → item-line i ++ x ≡ codes "item " ++ (decimal (i .length) ++ (32 ∷ (decimal (i .width) ++ (32 ∷ (letter (i .«may_turn») ∷ (32 ∷ (decimal (i .value) ++ (32 ∷ (decimal (i .ordered) ++ (10 ∷ x))))))))))
+    → item-line i ++ x ≡ codes "item " ++ (decimal (i .length) ++ (32 ∷ (decimal (i .width) ++ (32 ∷ (letter Turn (i .«may_turn») ∷ (32 ∷ (decimal (i .value) ++ (32 ∷ (decimal (i .ordered) ++ (10 ∷ x))))))))))
 item-open i x = simp append-assoc
 
 same-job : (h k : Head) (x y : List ℕ) → ShortHead h → ShortHead k → job-line h ++ x ≡ job-line k ++ y → (h ≡ k) × (x ≡ y)
@@ -43,8 +44,8 @@ same-item : (i k : Item) (x y : List ℕ) → ShortItem i → ShortItem k → it
 same-item i k x y si sk e =
     let a = same-number Blank (i .length) (k .length) _ _ (si .length) (sk .length) (same-rest (codes "item ") _ _ (sym (item-open i x) ∙ e ∙ item-open k y)) in
     let b = same-number Blank (i .width) (k .width) _ _ (si .width) (sk .width) (a .1) in
-    let t = same-turn (i .«may_turn») (k .«may_turn») _ _ (b .1) in
-    let c = same-number Blank (i .value) (k .value) _ _ (si .value) (sk .value) (same-rest (codes " ") _ _ (t .1)) in
+    let t = same-choice Turn 32 (i .«may_turn») (k .«may_turn») _ _ (b .1) in
+    let c = same-number Blank (i .value) (k .value) _ _ (si .value) (sk .value) (t .1) in
     let l = same-number Line (i .ordered) (k .ordered) _ _ (si .ordered) (sk .ordered) (c .1) in
     let e : _≡_ {A = Item} (record { length = i .length; width = i .width; «may_turn» = i .«may_turn»; value = i .value; ordered = i .ordered })
     (record { length = k .length; width = k .width; «may_turn» = k .«may_turn»; value = k .value; ordered = k .ordered }) = cc (a .0, b .0, t .0, c .0, l .0) in

@@ -5,6 +5,7 @@ use Prim.Native.Nat.{ℕ}
 use lib.Chars.{codes}
 use Rattle.std.specs.Written.{decimal}
 use Rattle.text.specs.Fields.{line, letter, SevenDigits}
+use Rattle.text.specs.declared.fields.Letters.the-variants.{Turn}
 use Rattle.orders.specs.declared.order.Head.{Head}
 use Rattle.orders.specs.declared.order.Item.{Item}
 
@@ -14,7 +15,7 @@ job-line h = line (codes "job") (decimal (h .job) ∷ decimal (h .length) ∷ de
 
 -- `item`, length, width, `n` or `t`, value, ordered number
 abbrev pub item-line : Item → List ℕ
-item-line i = line (codes "item") (decimal (i .length) ∷ decimal (i .width) ∷ (letter (i .«may_turn») ∷ []) ∷ decimal (i .value) ∷ decimal (i .ordered) ∷ [])
+item-line i = line (codes "item") (decimal (i .length) ∷ decimal (i .width) ∷ (letter Turn (i .«may_turn») ∷ []) ∷ decimal (i .value) ∷ decimal (i .ordered) ∷ [])
 
 -- each number has at most seven digits
 pub record ShortHead (h : Head) : Type 0 where

@@ -4,8 +4,8 @@ use Prim.Native.Nat.{ℕ}
 use denote.Ref.{now}
 use Rattle.std.specs.Of.Vec.{vec-items}
 use Rattle.orders.specs.declared.order.Order.{Order}
-use Rattle.orders.specs.declared.unread.Stop.{Stop}
-use Rattle.orders.specs.declared.unread.Stop.the-variants as stop
+use Rattle.text.specs.declared.stop.Stop.{Stop}
+use Rattle.text.specs.declared.stop.Stop.the-variants as stop
 use Rattle.orders.specs.declared.unread.Unread.{Unread}
 use Rattle.orders.specs.declared.unread.Unread.the-variants as unread
 use Rattle.orders.specs.Orders.{TextOf, ReadAs, Faulty, Lawful, Fitting}

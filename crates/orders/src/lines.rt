@@ -8,8 +8,9 @@ use crate::order::Head;
 use crate::order::Item;
 use text::fields::End;
 use text::fields::Fault;
+use text::fields::Letters;
+use text::fields::choice;
 use text::fields::number;
-use text::fields::turn;
 use text::fields::word;
 
 pub(crate) fn job_line<'a>(text: &'a [u8]) -> Result<(Head, &'a [u8]), Fault<'a>>
@@ -37,8 +38,7 @@ pub(crate) fn item_line<'a>(text: &'a [u8]) -> Result<(Item, &'a [u8]), Fault<'a
     let rest = word(text, b"item ")?;
     let (length, rest) = number(rest, End::Blank)?;
     let (width, rest) = number(rest, End::Blank)?;
-    let (may_turn, rest) = turn(rest)?;
-    let rest = word(rest, b" ")?;
+    let (may_turn, rest) = choice(rest, Letters::Turn, End::Blank)?;
     let (value, rest) = number(rest, End::Blank)?;
     let (ordered, rest) = number(rest, End::Line)?;
     let item = Item {

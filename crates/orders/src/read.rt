@@ -5,11 +5,11 @@ use crate::check::first_fault;
 use crate::lines::item_line;
 use crate::lines::job_line;
 use crate::order::Order;
-use crate::unread::Stop;
-use crate::unread::StopFromFault;
-use crate::unread::StopFromRefused;
 use crate::unread::Unread;
 use std::alloc::Global;
+use text::stop::Stop;
+use text::stop::StopFromFault;
+use text::stop::StopFromRefused;
 
 // The whole of a text, whatever its length.
 fn read_lines<'a>(heap: Global, text: &'a [u8]) -> Result<Order, Stop<'a>>

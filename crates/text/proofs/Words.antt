@@ -1,4 +1,4 @@
--- Where a fixed word and a turn letter stop.
+-- Where a fixed word and a letter stop.
 use mathlib.Core.Path.{_≡_, refl, sym, ap, subst, _∙_}
 use mathlib.Core.Bool.{Bool, true, false}
 use mathlib.Core.List.{List, [], _∷_, _++_, append-assoc, append-nil}
@@ -7,7 +7,8 @@ use native.Mathlib.Omega.{arith}
 use lib.ListN.{length, getD, take, drop, take-append-drop}
 use lib.Seq.{drop-cons}
 use Rattle.text.specs.Texts.{Begins, Stops}
-use Rattle.text.specs.Fields.{Word, Turn, letter}
+use Rattle.text.specs.declared.fields.Letters.{Letters}
+use Rattle.text.specs.Fields.{Word, Letter, letter}
 use Rattle.text.proofs.Codes.{Code, head-same, tail-same, same-rest, push-rest}
 
 pub word-code : (w : List ℕ) → Code (Word w)
@@ -28,19 +29,20 @@ module _ (w : List ℕ) (i : ℕ) (h : i < length w) where
         (same-rest (take i w) (b ∷ k .0) (getD w i 0 ∷ drop (suc i) w) (sym (push-rest (take i w) b (k .0)) ∙ k .1 ∙ sym parted)));
   }
 
-letters : (b : ℕ) (r : List ℕ) → Turn (b ∷ r) → (b ≡ 116 → ⊥) → (b ≡ 110 → ⊥) → ⊥
-letters b r (true, e) yes-t no-n = yes-t (head-same b 116 r [] e)
-letters b r (false, e) yes-t no-n = no-n (head-same b 110 r [] e)
+module _ (l : Letters) where
+  neither : (b : ℕ) (r : List ℕ) → Letter l (b ∷ r) → (b ≡ letter l true → ⊥) → (b ≡ letter l false → ⊥) → ⊥
+  neither b r (true, e) not-yes not-no = not-yes (head-same b (letter l true) r [] e)
+  neither b r (false, e) not-yes not-no = not-no (head-same b (letter l false) r [] e)
 
-pub turn-code : Code Turn
-turn-code u v (a, e) (b, f) = tail-same (letter a) (letter b) v [] (ap (λ z. z ++ v) (sym e) ∙ f)
+  pub letter-code : Code (Letter l)
+  letter-code u v (a, e) (b, f) = tail-same (letter l a) (letter l b) v [] (ap (λ z. z ++ v) (sym e) ∙ f)
 
-pub turn-stops : (t : List ℕ) → ((b : ℕ) (more : List ℕ) → t ≡ b ∷ more → (b ≡ 116 → ⊥) × (b ≡ 110 → ⊥)) → Stops Turn t t
-turn-stops t bad = record {
-  read = [];
-  parts = refl;
-  next = 116;
-  after = [];
-  could = (true, refl);
-  cannot = λ b more f k. letters b (k .0) (k .1) (bad b more f .0) (bad b more f .1);
-}
+  pub letter-stops : (t : List ℕ) → ((b : ℕ) (more : List ℕ) → t ≡ b ∷ more → (b ≡ letter l true → ⊥) × (b ≡ letter l false → ⊥)) → Stops (Letter l) t t
+  letter-stops t bad = record {
+    read = [];
+    parts = refl;
+    next = letter l true;
+    after = [];
+    could = (true, refl);
+    cannot = λ b more f k. neither b (k .0) (k .1) (bad b more f .0) (bad b more f .1);
+  }

@@ -1,11 +1,12 @@
 // The fields of a line. A reader takes the text that is left; it answers a value and the text after the field, or, as its error, the text from the
 // first byte at fault on.
 ghost use mathlib.Core.Path.{_≡_};
+ghost use mathlib.Core.Bool.{true, false};
 ghost use mathlib.Core.List.{_∷_, _++_};
 ghost use Rattle.std.specs.Orderings.{When};
 ghost use Rattle.std.specs.Results.{Cases};
 ghost use Rattle.std.specs.Written.{decimal};
-ghost use Rattle.text.specs.Fields.{mark, letter, SevenDigits, Word, Number, Turn, More};
+ghost use Rattle.text.specs.Fields.{mark, letter, SevenDigits, Word, Number, Letter, Choice, More};
 ghost use Rattle.text.specs.Texts.{Stops};
 
 // A fault in a text: what is left of the text from the first byte at fault on.
@@ -19,6 +20,13 @@ pub struct Fault<'a> {
 pub enum End {
     Blank,
     Line,
+}
+
+// What a field of one letter says: `n` or `t`, and `k` or `s`.
+#[derive(Clone, Copy)]
+pub enum Letters {
+    Turn,
+    Spare,
 }
 
 fn mark_of(end: End) -> u8
@@ -79,18 +87,38 @@ pub fn number<'a>(text: &'a [u8], end: End) -> Result<(u32, &'a [u8]), Fault<'a>
     Err(Fault { left })
 }
 
-// Whether a piece may turn: `t` or `n`.
-pub fn turn<'a>(text: &'a [u8]) -> Result<(bool, &'a [u8]), Fault<'a>>
-    ensures { λ r. ⌜ Cases r (λ x. now (text .entry) ≡ letter (x .0) ∷ now (x .1)) (λ f. Stops Turn (now (text .entry)) (now (f .left))) ⌝ }
+// The two letters of a choice: for no, and for yes.
+fn letters_of(letters: Letters) -> (u8, u8)
+    ensures { λ r. ⌜ (r .0 ≡ letter letters false) × (r .1 ≡ letter letters true) ⌝ }
 {
+    match letters {
+        Letters::Turn => (b'n', b't'),
+        Letters::Spare => (b'k', b's'),
+    }
+}
+
+// One of two letters.
+fn one_letter<'a>(text: &'a [u8], letters: Letters) -> Result<(bool, &'a [u8]), Fault<'a>>
+    ensures { λ r. ⌜ Cases r (λ x. now (text .entry) ≡ letter letters (x .0) ∷ now (x .1)) (λ f. Stops (Letter letters) (now (text .entry)) (now (f .left))) ⌝ }
+{
+    let (no, yes) = letters_of(letters);
     let Some((first, rest)) = text.split_first() else {
         return Err(Fault { left: text });
     };
-    if *first == b't' {
+    if *first == yes {
         Ok((true, rest))
-    } else if *first == b'n' {
+    } else if *first == no {
         Ok((false, rest))
     } else {
         Err(Fault { left: text })
     }
+}
+
+// A choice of two letters, and the mark after it.
+pub fn choice<'a>(text: &'a [u8], letters: Letters, end: End) -> Result<(bool, &'a [u8]), Fault<'a>>
+    ensures { λ r. ⌜ Cases r (λ x. now (text .entry) ≡ letter letters (x .0) ∷ (mark end ∷ now (x .1))) (λ f. Stops (Choice letters (mark end)) (now (text .entry)) (now (f .left))) ⌝ }
+{
+    let (chosen, rest) = one_letter(text, letters)?;
+    let after = word(rest, &[mark_of(end)])?;
+    Ok((chosen, after))
 }

@@ -2,3 +2,4 @@
 pub mod bad;
 pub mod fields;
 pub mod place;
+pub mod stop;
