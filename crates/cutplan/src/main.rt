@@ -11,7 +11,7 @@ fn main(rt: LibcRuntime) -> io::Result<()> {
     let mut text = Vec::new(heap);
     rt.stdin().read_to_end(&mut text)?;
     let report = judge(heap, text.as_slice())?;
-    rt.print(report.bytes)?;
+    rt.print(report.printed)?;
     if report.accepted {
         Ok(())
     } else {

@@ -34,7 +34,7 @@ const FAULTS: [(&str, usize, usize); 25] = [
 // The report on a text is `expected`, and is accepted or not.
 fn reports(heap: Global, text: &[u8], expected: &str, accepted: bool) -> Result<(), Fail> {
     let report = judge(heap, text)?;
-    check(report.bytes.as_str() == expected)?;
+    check(report.printed.as_str() == expected)?;
     check_eq(report.accepted, accepted)
 }
 

@@ -1,5 +1,4 @@
 // The vocabulary of the cutting office: panels, kinds, rows, refusals and tasks.
-mod making;
 pub mod panel;
 pub mod refusal;
 pub mod row;

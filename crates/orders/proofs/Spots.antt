@@ -7,7 +7,7 @@ use native.Mathlib.Numerals.{add-one}
 use lib.ListN.{length, getD, take, drop, length-append, length-take, take-append-drop}
 use Rattle.std.proofs.shelf.Lists.{take-all, nil-from-length}
 use Rattle.text.specs.Texts.{Begins}
-use Rattle.orders.specs.Orders.{Lawful, Faulty, FaultAfter}
+use Rattle.orders.specs.Orders.{Lawful, LeftAtFault, FaultAfter}
 
 take-front : (a b : List ℕ) → take (length a) (a ++ b) ≡ a
 take-front [] b = refl
@@ -37,7 +37,7 @@ module _ (t : List ℕ) (size : ℕ) (least : size ≡ min (length t) 65536) whe
     cannot = λ a b w. omega (arith, a, b);
   }
 
-  module _ (left : List ℕ) (f : Faulty (take size t) left) where
+  module _ (left : List ℕ) (f : LeftAtFault (take size t) left) where
     long : length (f .read) + length left ≡ size
     long = sym (simp length-append at (ap length (f .parts))) ∙ front-length
 

@@ -16,7 +16,7 @@ use Rattle.text.specs.declared.fields.Letters.the-variants.{Turn}
 use Rattle.text.proofs.Codes.{same-rest}
 use Rattle.text.proofs.Parts.{same-number, same-choice}
 use Rattle.orders.specs.Lines.{job-line, item-line, ShortHead, ShortItem}
-use Rattle.orders.specs.Orders.{item-lines, TextOf, Lawful, Fitting, FaultAfter, ReadAs, FaultOnly}
+use Rattle.orders.specs.Orders.{item-lines, TextOf, Lawful, Fitting, FaultAfter, ReadAs, OneFault}
 use Rattle.orders.specs.declared.order.Head.{Head}
 use Rattle.orders.specs.declared.order.Item.{Item}
 
@@ -93,5 +93,5 @@ same-fault t n m f g =
 pub read-as : (t : List ℕ) (h : Head) (is : List Item) → Fitting t → TextOf h is t → ReadAs h is t
 read-as t h is fits says = record { fitting = fits; says = says; only = λ k ks other. same-order t k h ks is other says }
 
-pub fault-only : (t : List ℕ) (n : ℕ) → FaultAfter t n → FaultOnly t n
+pub fault-only : (t : List ℕ) (n : ℕ) → FaultAfter t n → OneFault t n
 fault-only t n f = record { fault = f; only = λ m other. same-fault t m n other f; refused = not-lawful-at t n f }

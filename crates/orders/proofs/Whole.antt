@@ -12,7 +12,7 @@ use Rattle.orders.specs.declared.order.Head.{Head}
 use Rattle.orders.specs.declared.order.Item.{Item}
 use Rattle.text.specs.Texts.{Begins, Stops}
 use Rattle.orders.specs.Lines.{job-line, item-line, ShortHead, ShortItem, JobLine, ItemLine}
-use Rattle.orders.specs.Orders.{item-lines, text-of, TextOf, Lawful, Faulty}
+use Rattle.orders.specs.Orders.{item-lines, text-of, TextOf, Lawful, LeftAtFault}
 use Rattle.text.proofs.Codes.{Then, Code, same-front, push-rest, stops-first, not-whole}
 use Rattle.orders.proofs.LineParts.{job-code, item-code}
 
@@ -70,7 +70,7 @@ module _ (h : Head) (sh : ShortHead h) (is : List Item) (si : All ShortItem is) 
     },
   )
 
-  pub faulty-item : {rest left : List ℕ} (t : List ℕ) → t ≡ text-of h is ++ rest → 0 < length rest → Stops ItemLine rest left → Faulty t left
+  pub faulty-item : {rest left : List ℕ} (t : List ℕ) → t ≡ text-of h is ++ rest → 0 < length rest → Stops ItemLine rest left → LeftAtFault t left
   faulty-item {rest} {left} t e some s =
       let f = stops-first ItemLine Items item-code rest left [] no-items s in
       record {
@@ -90,7 +90,7 @@ module _ (h : Head) (sh : ShortHead h) (is : List Item) (si : All ShortItem is) 
         );
       }
 
-pub faulty-job : {t left : List ℕ} → Stops JobLine t left → Faulty t left
+pub faulty-job : {t left : List ℕ} → Stops JobLine t left → LeftAtFault t left
 faulty-job {t} {left} s =
     let f = stops-first JobLine Items job-code t left [] no-items s in
     record {
@@ -130,7 +130,7 @@ behind-item t rest after i b (s, e) = record {
   parts = line-more (b .head) (b .items) i t rest after (b .parts) e;
 }
 
-pub behind-fault : (t rest left : List ℕ) → Behind t rest → 0 < length rest → Stops ItemLine rest left → Faulty t left
+pub behind-fault : (t rest left : List ℕ) → Behind t rest → 0 < length rest → Stops ItemLine rest left → LeftAtFault t left
 behind-fault t rest left b some s = faulty-item (b .head) (b .short-head) (b .items) (b .short-items) t (b .parts) some s
 
 pub behind-all : (t rest : List ℕ) → Behind t rest → length rest ≡ 0 → Lawful t
@@ -144,11 +144,11 @@ behind-all t rest b none = (
   },
 )
 
-pub not-lawful-by : (t left : List ℕ) → Faulty t left → Lawful t → (l : List ℕ) → left ≡ l → ⊥
+pub not-lawful-by : (t left : List ℕ) → LeftAtFault t left → Lawful t → (l : List ℕ) → left ≡ l → ⊥
 not-lawful-by t left f l [] e = f .early e l
 not-lawful-by t left f l (b ∷ more) e =
     f .cannot b more e (more, subst Lawful (f .parts ∙ ap (λ z. f .read ++ z) e ∙ sym (push-rest (f .read) b more)) l)
 
 -- a faulty text is not lawful
-pub not-lawful : (t left : List ℕ) → Faulty t left → Lawful t → ⊥
+pub not-lawful : (t left : List ℕ) → LeftAtFault t left → Lawful t → ⊥
 not-lawful t left f l = not-lawful-by t left f l left refl

@@ -7,7 +7,7 @@ use Rattle.text.specs.Bad.{bad-line}
 use Rattle.orders.specs.declared.order.Head.{Head}
 use Rattle.orders.specs.declared.order.Item.{Item}
 use Rattle.orders.specs.Orders.{ReadAs}
-use Rattle.orders.specs.Places.{Bad, FaultyAt}
+use Rattle.orders.specs.Places.{Bad, TellsFault}
 use Rattle.orders.specs.Printed.{order-line}
 
 -- the text is that of one order and not too long: the order is restated
@@ -20,7 +20,7 @@ pub record Restated (t bytes : List ℕ) : Type 0 where
 -- the text is at fault: the line of its fault
 pub record Rejected (t bytes : List ℕ) : Type 0 where
   pub bad : Bad
-  pub at : FaultyAt bad t
+  pub at : TellsFault bad t
   pub printed : bytes ≡ bad-line (bad .code) (bad .line) (bad .column)
 
 -- all bytes that are printed for t, and whether it is accepted

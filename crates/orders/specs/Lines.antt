@@ -17,7 +17,7 @@ job-line h = line (codes "job") (decimal (h .job) ∷ decimal (h .length) ∷ de
 abbrev pub item-line : Item → List ℕ
 item-line i = line (codes "item") (decimal (i .length) ∷ decimal (i .width) ∷ (letter Turn (i .«may_turn») ∷ []) ∷ decimal (i .value) ∷ decimal (i .ordered) ∷ [])
 
--- each number has at most seven digits
+-- each number of the first line has at most seven digits
 pub record ShortHead (h : Head) : Type 0 where
   pub job : SevenDigits (h .job)
   pub length : SevenDigits (h .length)
@@ -25,15 +25,17 @@ pub record ShortHead (h : Head) : Type 0 where
   pub saw : SevenDigits (h .saw)
   pub trim : SevenDigits (h .trim)
 
+-- and each number of an item line
 pub record ShortItem (i : Item) : Type 0 where
   pub length : SevenDigits (i .length)
   pub width : SevenDigits (i .width)
   pub value : SevenDigits (i .value)
   pub ordered : SevenDigits (i .ordered)
 
--- the texts that are a first line, and an item line
+-- the texts that are a first line
 abbrev pub JobLine : List ℕ → Type 0
 JobLine t = (h : Head) × ShortHead h × (t ≡ job-line h)
 
+-- the texts that are an item line
 abbrev pub ItemLine : List ℕ → Type 0
 ItemLine t = (i : Item) × ShortItem i × (t ≡ item-line i)

@@ -48,13 +48,13 @@ pub record ReadAs (h : Head) (is : List Item) (t : List ℕ) : Type 0 where
   pub only : (k : Head) (ks : List Item) → TextOf k ks t → (k ≡ h) × (ks ≡ is)
 
 -- t is at fault after n bytes and nowhere else, so it is no lawful text that is not too long
-pub record FaultOnly (t : List ℕ) (n : ℕ) : Type 0 where
+pub record OneFault (t : List ℕ) (n : ℕ) : Type 0 where
   pub fault : FaultAfter t n
   pub only : (m : ℕ) → FaultAfter t m → m ≡ n
   pub refused : Lawful t → Fitting t → ⊥
 
 -- t is not lawful, and `left` is what follows on its longest front that begins a lawful text
-pub record Faulty (t left : List ℕ) : Type 0 where
+pub record LeftAtFault (t left : List ℕ) : Type 0 where
   pub read : List ℕ
   pub parts : t ≡ read ++ left
   pub could : Begins Lawful read

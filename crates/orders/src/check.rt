@@ -3,8 +3,8 @@ ghost use Prim.Native.Nat.{min};
 ghost use mathlib.Core.Path.{_≡_};
 ghost use lib.ListN.{length, take};
 ghost use Rattle.std.specs.Options.{Cases as BySome};
-ghost use Rattle.orders.specs.Orders.{Lawful, Faulty, Fitting};
-ghost use Rattle.orders.specs.Places.{bad-text, FaultyAt};
+ghost use Rattle.orders.specs.Orders.{Lawful, LeftAtFault, Fitting};
+ghost use Rattle.orders.specs.Places.{bad-text, TellsFault};
 use crate::lines::item_line;
 use crate::lines::job_line;
 use text::place::Place;
@@ -15,7 +15,7 @@ const MOST_BYTES: usize = 65_536;
 
 // What is left of a text from its first fault on, whatever the text's length; none where it is lawful.
 fn left_at_fault<'a>(text: &'a [u8]) -> Option<&'a [u8]>
-    ensures { λ r. ⌜ BySome r (Lawful (now (text .entry))) (λ left. Faulty (now (text .entry)) (now left)) ⌝ }
+    ensures { λ r. ⌜ BySome r (Lawful (now (text .entry))) (λ left. LeftAtFault (now (text .entry)) (now left)) ⌝ }
 {
     let mut rest = match job_line(text) {
         Ok((_, after)) => after,
@@ -41,7 +41,7 @@ fn within_limit<'a>(text: &'a [u8]) -> &'a [u8]
 
 // The place of the first fault; none where the text is lawful and not too long.
 pub(crate) fn first_fault(text: &[u8]) -> Option<Place>
-    ensures { λ r. ⌜ BySome r (Lawful (now (text .entry)) × Fitting (now (text .entry))) (λ p. FaultyAt (bad-text p) (now (text .entry))) ⌝ }
+    ensures { λ r. ⌜ BySome r (Lawful (now (text .entry)) × Fitting (now (text .entry))) (λ p. TellsFault (bad-text p) (now (text .entry))) ⌝ }
 {
     let front = within_limit(text);
     match left_at_fault(front) {

@@ -16,14 +16,8 @@ use std::alloc::AllocError;
 use std::alloc::Global;
 use std::fmt;
 use std::fmt::Write;
-use text::bad::bad;
-
-// All bytes to be printed, and whether the text was accepted.
-#[derive(Drop)]
-pub struct Report {
-    pub bytes: String,
-    pub accepted: bool,
-}
+use text::report::Report;
+use text::report::bad;
 
 // How many pieces are ordered in all.
 fn pieces_of_items(items: &[Item]) -> u64
@@ -38,7 +32,7 @@ fn pieces_of_items(items: &[Item]) -> u64
     pieces
 }
 
-// The two halves of the line that restates an order.
+// The first half of the line that restates an order.
 fn push_head(out: &mut String, head: Head) -> fmt::Result
     ensures { λ r. ⌜ Appended (isOk r) (string-bytes (now (out .entry))) (head-words head) (string-bytes (now (out .exit))) ⌝ }
 {
@@ -55,12 +49,14 @@ fn push_head(out: &mut String, head: Head) -> fmt::Result
     )
 }
 
+// And the second half.
 fn push_counts(out: &mut String, lines: usize, pieces: u64) -> fmt::Result
     ensures { λ r. ⌜ Appended (isOk r) (string-bytes (now (out .entry))) (count-words lines pieces) (string-bytes (now (out .exit))) ⌝ }
 {
     write!(out, " lines {lines} pieces {pieces}\n")
 }
 
+// The order on one line.
 fn push_order(out: &mut String, head: Head, items: &[Item]) -> fmt::Result
     requires few { ⌜ Few (now items) ⌝ }
     requires short { ⌜ All ShortItem (now items) ⌝ }
@@ -72,14 +68,14 @@ fn push_order(out: &mut String, head: Head, items: &[Item]) -> fmt::Result
 
 // The report on a text: the order on one line, or the line of the text's first fault.
 pub fn judge(heap: Global, text: &[u8]) -> Result<Report, AllocError>
-    ensures { λ r. ⌜ made r (λ s. Judged (now (text .entry)) (string-bytes (s .bytes)) (s .accepted)) ⌝ }
+    ensures { λ r. ⌜ made r (λ s. Judged (now (text .entry)) (string-bytes (s .printed)) (s .accepted)) ⌝ }
 {
     match read_order(heap, text) {
         Ok(order) => {
-            let mut bytes = String::new(heap);
-            match push_order(&mut bytes, order.head, order.items.as_slice()) {
+            let mut printed = String::new(heap);
+            match push_order(&mut printed, order.head, order.items.as_slice()) {
                 Ok(()) => Ok(Report {
-                    bytes,
+                    printed,
                     accepted: true,
                 }),
                 Err(_) => Err(AllocError),
@@ -87,9 +83,9 @@ pub fn judge(heap: Global, text: &[u8]) -> Result<Report, AllocError>
         }
         Err(unread) => match unread {
             Unread::Fault(place) => {
-                let bytes = bad(heap, Refusal::Text.code(), place.line, place.column)?;
+                let printed = bad(heap, Refusal::Text, place.line, place.column)?;
                 Ok(Report {
-                    bytes,
+                    printed,
                     accepted: false,
                 })
             }

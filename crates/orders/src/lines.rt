@@ -13,6 +13,7 @@ use text::fields::choice;
 use text::fields::number;
 use text::fields::word;
 
+// The first line.
 pub(crate) fn job_line<'a>(text: &'a [u8]) -> Result<(Head, &'a [u8]), Fault<'a>>
     ensures { λ r. ⌜ Cases r (λ x. ShortHead (x .0) × (now (text .entry) ≡ job-line (x .0) ++ now (x .1))) (λ f. Stops JobLine (now (text .entry)) (now (f .left))) ⌝ }
 {
@@ -32,6 +33,7 @@ pub(crate) fn job_line<'a>(text: &'a [u8]) -> Result<(Head, &'a [u8]), Fault<'a>
     Ok((head, rest))
 }
 
+// An item line.
 pub(crate) fn item_line<'a>(text: &'a [u8]) -> Result<(Item, &'a [u8]), Fault<'a>>
     ensures { λ r. ⌜ Cases r (λ x. ShortItem (x .0) × (now (text .entry) ≡ item-line (x .0) ++ now (x .1))) (λ f. Stops ItemLine (now (text .entry)) (now (f .left))) ⌝ }
 {

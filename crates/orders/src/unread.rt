@@ -5,6 +5,6 @@ use text::place::Place;
 pub enum Unread {
     // the text is at fault, first at this place
     Fault(Place),
-    // the text is lawful, and there was no memory to keep what it says
+    // the text is lawful and not too long, and there was no memory to keep what it says
     Memory,
 }

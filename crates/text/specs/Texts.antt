@@ -7,7 +7,7 @@ use Prim.Native.Nat.{ℕ}
 abbrev pub Begins : (List ℕ → Type 0) → List ℕ → Type 0
 Begins K p = (r : List ℕ) × K (p ++ r)
 
--- t does not begin with a text of K, and `left` is what follows in t on the longest front that could still become one:
+-- `left` is what follows in t on the longest front that could still become a text of K:
 -- the bytes read begin a longer text of K, and with one byte more of t they begin none
 pub record Stops (K : List ℕ → Type 0) (t left : List ℕ) : Type 0 where
   pub read : List ℕ

@@ -55,14 +55,15 @@ pub fn word<'a>(text: &'a [u8], expected: &[u8]) -> Result<&'a [u8], Fault<'a>>
     Ok(rest)
 }
 
+// The most digits of a number.
 const MOST_DIGITS: u8 = 7;
 
 // Whether `byte` can be the next digit of a number.
 fn goes_on(value: u32, digits: u8, byte: u8) -> bool
     ensures { λ r. ⌜ When r (More digits value byte) (More digits value byte → ⊥) ⌝ }
 {
-    let zero = digits > 0 && value == 0;
-    digits < MOST_DIGITS && !zero && byte.is_ascii_digit()
+    let leading_zero = digits > 0 && value == 0;
+    digits < MOST_DIGITS && !leading_zero && byte.is_ascii_digit()
 }
 
 // A number of at most seven digits without a needless leading zero, and the mark after it.

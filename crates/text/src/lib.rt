@@ -1,5 +1,5 @@
-// Reading lines of text field by field, and the place of a fault.
-pub mod bad;
+// Reading lines of text field by field, the place of a fault, and what is printed of it.
 pub mod fields;
 pub mod place;
+pub mod report;
 pub mod stop;

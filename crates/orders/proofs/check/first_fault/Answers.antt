@@ -4,7 +4,7 @@ use native.Mathlib.Omega.{arith}
 use lib.ListN.{length, take}
 use Rattle.std.proofs.shelf.Lists.{take-all}
 use Rattle.text.specs.Places.{line-after, column-after}
-use Rattle.orders.specs.Orders.{Lawful, Faulty}
+use Rattle.orders.specs.Orders.{Lawful, LeftAtFault}
 use Rattle.orders.proofs.Spots.{too-long, left-fits, same-before, at-fault}
 use Rattle.orders.proofs.Unique.{fault-only}
 use Rattle.orders.proofs.check.first_fault.Needs as need
@@ -14,7 +14,7 @@ sub-front c =
     let t = c .args .text .now in
     let front = c .within-limit-front .result .now in
     let left = c .in-Some .left .now in
-    left-fits t (length front) (c .within-limit-front .ensures .size) left (subst (λ z. Faulty z left) (c .within-limit-front .ensures .front) (c .in-Some .ensures tt))
+    left-fits t (length front) (c .within-limit-front .ensures .size) left (subst (λ z. LeftAtFault z left) (c .within-limit-front .ensures .front) (c .in-Some .ensures tt))
 
 pub returns-in-Some : need.returns-in-Some
 returns-in-Some c =
@@ -24,7 +24,7 @@ returns-in-Some c =
     let is-front = c .within-limit-front .ensures .front in
     let least = c .within-limit-front .ensures .size in
     let left = c .in-Some .left .now in
-    let faulty = subst (λ z. Faulty z left) is-front (c .in-Some .ensures tt) in
+    let faulty = subst (λ z. LeftAtFault z left) is-front (c .in-Some .ensures tt) in
     let n = size - length left in
     let none : n - 0 ≡ n = omega arith in
     let same : take (n - 0) front ≡ take n t = ap (λ m. take m front) none ∙ ap (take n) is-front ∙ same-before t size least left faulty in

@@ -16,41 +16,41 @@ pub returns-in-Break-job : need.returns-in-Break-job
 returns-in-Break-job c =
     let p = err-from-errBy (c .from-residual-in-Break-job .result) (c .from-residual-in-Break-job .ensures .1) in
     rw (p .1, p .2) (job-stops (past-word (codes "job ") job-fields (c .in-Continue-rest .ensures tt)
-      (here (number Blank) last-four (c .in-Break-job .ensures tt))))
+    (here (number Blank) last-four (c .in-Break-job .ensures tt))))
 
 pub returns-in-Break-length : need.returns-in-Break-length
 returns-in-Break-length c =
     let p = err-from-errBy (c .from-residual-in-Break-length .result) (c .from-residual-in-Break-length .ensures .1) in
     rw (p .1, p .2) (job-stops (past-word (codes "job ") job-fields (c .in-Continue-rest .ensures tt)
-      (past-number Blank last-four (c .in-Continue-job .job) (c .in-Continue-job .ensures tt)
-      (here (number Blank) last-three (c .in-Break-length .ensures tt)))))
+    (past-number Blank last-four (c .in-Continue-job .job) (c .in-Continue-job .ensures tt)
+    (here (number Blank) last-three (c .in-Break-length .ensures tt)))))
 
 pub returns-in-Break-width : need.returns-in-Break-width
 returns-in-Break-width c =
     let p = err-from-errBy (c .from-residual-in-Break-width .result) (c .from-residual-in-Break-width .ensures .1) in
     rw (p .1, p .2) (job-stops (past-word (codes "job ") job-fields (c .in-Continue-rest .ensures tt)
-      (past-number Blank last-four (c .in-Continue-job .job) (c .in-Continue-job .ensures tt)
-      (past-number Blank last-three (c .in-Continue-length .length) (c .in-Continue-length .ensures tt)
-      (here (number Blank) last-two (c .in-Break-width .ensures tt))))))
+    (past-number Blank last-four (c .in-Continue-job .job) (c .in-Continue-job .ensures tt)
+    (past-number Blank last-three (c .in-Continue-length .length) (c .in-Continue-length .ensures tt)
+    (here (number Blank) last-two (c .in-Break-width .ensures tt))))))
 
 pub returns-in-Break-saw : need.returns-in-Break-saw
 returns-in-Break-saw c =
     let p = err-from-errBy (c .from-residual-in-Break-saw .result) (c .from-residual-in-Break-saw .ensures .1) in
     rw (p .1, p .2) (job-stops (past-word (codes "job ") job-fields (c .in-Continue-rest .ensures tt)
-      (past-number Blank last-four (c .in-Continue-job .job) (c .in-Continue-job .ensures tt)
-      (past-number Blank last-three (c .in-Continue-length .length) (c .in-Continue-length .ensures tt)
-      (past-number Blank last-two (c .in-Continue-width .width) (c .in-Continue-width .ensures tt)
-      (here (number Blank) last-one (c .in-Break-saw .ensures tt)))))))
+    (past-number Blank last-four (c .in-Continue-job .job) (c .in-Continue-job .ensures tt)
+    (past-number Blank last-three (c .in-Continue-length .length) (c .in-Continue-length .ensures tt)
+    (past-number Blank last-two (c .in-Continue-width .width) (c .in-Continue-width .ensures tt)
+    (here (number Blank) last-one (c .in-Break-saw .ensures tt)))))))
 
 pub returns-in-Break-trim : need.returns-in-Break-trim
 returns-in-Break-trim c =
     let p = err-from-errBy (c .from-residual-in-Break-trim .result) (c .from-residual-in-Break-trim .ensures .1) in
     rw (p .1, p .2) (job-stops (past-word (codes "job ") job-fields (c .in-Continue-rest .ensures tt)
-      (past-number Blank last-four (c .in-Continue-job .job) (c .in-Continue-job .ensures tt)
-      (past-number Blank last-three (c .in-Continue-length .length) (c .in-Continue-length .ensures tt)
-      (past-number Blank last-two (c .in-Continue-width .width) (c .in-Continue-width .ensures tt)
-      (past-number Blank last-one (c .in-Continue-saw .saw) (c .in-Continue-saw .ensures tt)
-      (here (number Line) [] (c .in-Break-trim .ensures tt))))))))
+    (past-number Blank last-four (c .in-Continue-job .job) (c .in-Continue-job .ensures tt)
+    (past-number Blank last-three (c .in-Continue-length .length) (c .in-Continue-length .ensures tt)
+    (past-number Blank last-two (c .in-Continue-width .width) (c .in-Continue-width .ensures tt)
+    (past-number Blank last-one (c .in-Continue-saw .saw) (c .in-Continue-saw .ensures tt)
+    (here (number Line) [] (c .in-Break-trim .ensures tt))))))))
 
 pub returns : need.returns
 returns c = (

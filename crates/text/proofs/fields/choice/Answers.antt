@@ -15,4 +15,4 @@ pub returns-in-Break-after : need.returns-in-Break-after
 returns-in-Break-after c =
     let p = err-from-errBy (c .from-residual-in-Break-after .result) (c .from-residual-in-Break-after .ensures .1) in
     rw (p .1, p .2) (past-letter (c .args .letters) (mark (c .args .end)) (c .in-Continue-chosen .chosen) (c .in-Continue-chosen .ensures tt)
-      (subst (λ m. Stops (Word (m ∷ [])) (c .in-Continue-chosen .rest .now) (c .in-Break-after .field-0 .0 .left .now)) (c .mark-of .ensures) (c .in-Break-after .ensures tt)))
+    (subst (λ m. Stops (Word (m ∷ [])) (c .in-Continue-chosen .rest .now) (c .in-Break-after .field-0 .0 .left .now)) (c .mark-of .ensures) (c .in-Break-after .ensures tt)))

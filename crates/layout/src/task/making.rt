@@ -1,4 +1,4 @@
-// The constructor of a task.
+// Making a task, and what it holds.
 ghost use Prim.Native.Nat.{_≤_};
 ghost use mathlib.Core.Path.{_≡_};
 ghost use mathlib.Core.List.{_++_};
@@ -19,6 +19,7 @@ use crate::panel::NO_KIND;
 use crate::refusal::Refusal;
 use crate::task::Task;
 
+// Whether every kind has lawful sides.
 fn sides_are_lawful(kinds: &[Kind]) -> bool
     ensures { λ r. ⌜ When r (EachKind LawfulSides (now (kinds .entry))) (SomeKind BadSides (now (kinds .entry))) ⌝ }
 {
@@ -34,6 +35,7 @@ fn sides_are_lawful(kinds: &[Kind]) -> bool
     true
 }
 
+// Whether every kind has a lawful value.
 fn values_are_lawful(kinds: &[Kind]) -> bool
     ensures { λ r. ⌜ When r (EachKind LawfulValue (now (kinds .entry))) (SomeKind BadValue (now (kinds .entry))) ⌝ }
 {
@@ -45,6 +47,7 @@ fn values_are_lawful(kinds: &[Kind]) -> bool
     true
 }
 
+// Copies the kinds to the front of a table that has room for them.
 fn copy_kinds(from: &[Kind], to: &mut [Kind])
     requires { ⌜ size (now from) ≤ size (now to) ⌝ }
     ensures { λ _. ⌜ now (to .exit) ≡ now (from .entry) ++ drop (size (now (from .entry))) (now (to .entry)) ⌝ }
@@ -74,7 +77,7 @@ impl Task {
         requires { ⌜ WithinLimits (given length width (now kinds)) ⌝ }
         ensures { λ t. ⌜ model t ≡ given length width (now (kinds .entry)) ⌝ }
     {
-        let mut table = [NO_KIND; 32];
+        let mut table = [NO_KIND; MOST_KINDS];
         copy_kinds(kinds, &mut table);
         Task {
             length,
@@ -93,6 +96,19 @@ impl Task {
             Some(refusal) => Err(refusal),
             None => Ok(Task::filled(length, width, kinds)),
         }
+    }
+
+    // The sides of the plate.
+    pub fn length(&self) -> u16
+        ensures { λ r. ⌜ r ≡ model (now (self .entry)) .length ⌝ }
+    {
+        self.length
+    }
+
+    pub fn width(&self) -> u16
+        ensures { λ r. ⌜ r ≡ model (now (self .entry)) .width ⌝ }
+    {
+        self.width
     }
 
     // The kinds of the task, by their number. They and the plate keep to the limits, whichever task it is.
