@@ -4,6 +4,7 @@ use mathlib.Core.List.{List, [], _∷_, _++_}
 use Prim.Native.Nat.{ℕ, _+_, _≤_, _<_}
 use lib.ListN.{length, take}
 use Rattle.std.specs.shelf.Lists.{All}
+use Rattle.text.specs.Fields.{lines}
 use Rattle.text.specs.Texts.{Begins}
 use Rattle.orders.specs.declared.order.Head.{Head}
 use Rattle.orders.specs.declared.order.Item.{Item}
@@ -11,8 +12,7 @@ use Rattle.orders.specs.Lines.{job-line, item-line, ShortHead, ShortItem}
 
 -- one item line after another
 abbrev pub item-lines : List Item → List ℕ
-item-lines [] = []
-item-lines (i ∷ is) = item-line i ++ item-lines is
+item-lines is = lines item-line is
 
 -- the one text of an order: its first line, then its items
 abbrev pub text-of : Head → List Item → List ℕ

@@ -121,3 +121,12 @@ module _ (A B : List ℕ → Type 0) (code : Code A) where
 
 pub nil-not-cons : (t : List ℕ) (b : ℕ) (more : List ℕ) → length t ≡ 0 → t ≡ b ∷ more → ⊥
 nil-not-cons t b more h e = omega (arith, h, ap length e)
+
+-- a text that stops begins with none of the set
+pub no-front : (K : List ℕ → Type 0) → Code K → (t left u v : List ℕ) → Stops K t left → K u → t ≡ u ++ v → ⊥
+no-front K code t left u v s ku e = by-cut (cuts (s .read) left u v (sym (s .parts) ∙ e))
+  where
+    by-cut : Cut (s .read) left u v → ⊥
+    by-cut (inl (x, p, q)) = not-nil (s .next) x (s .after) (code u (x ++ (s .next ∷ s .after)) ku (subst K (ap (λ z. z ++ (s .next ∷ s .after)) p ∙ append-assoc u x (s .next ∷ s .after)) (s .could)))
+    by-cut (inr ([], p, q)) = not-nil (s .next) [] (s .after) (code (s .read) (s .next ∷ s .after) (subst K (p ∙ append-nil (s .read)) ku) (s .could))
+    by-cut (inr (c ∷ z, p, q)) = s .cannot c (z ++ v) q (z, subst K (p ∙ sym (push-rest (s .read) c z)) ku)

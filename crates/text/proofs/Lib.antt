@@ -1,5 +1,6 @@
 pub mod Codes
-mod Numerals
+pub mod Numerals
 mod Words
 mod Lines
 pub mod Parts
+pub mod Many

@@ -40,6 +40,10 @@ first-digit : (b : ℕ) (r ds z : List ℕ) → 0 < length ds → Digits 10 ds �
 first-digit b r [] z some h e = absurd (omega (arith, some))
 first-digit b r (d ∷ ds) z some h e = let f : b ≡ d = head-same b d r (ds ++ z) e in subst (In 48 57) (sym f) (digit-from-value d (h .0))
 
+-- what begins with a number begins with a digit
+pub decimal-front : (n : ℕ) → n < 10 ^ 7 → (b : ℕ) (r z : List ℕ) → b ∷ r ≡ decimal n ++ z → In 48 57 b
+decimal-front n small b r z e = let d = decimal-reads n (omega arith) .0 in first-digit b r (decimal n) z (d .0) (d .1) e
+
 -- no number with its mark begins another
 code-by : (m : ℕ) → (In 48 57 m → ⊥) → (n k : ℕ) (v : List ℕ) → k < 10 ^ 7 → Cut (decimal n) (m ∷ v) (decimal k) (m ∷ []) → v ≡ []
 code-by m mark n k v hk (inl ([], p, q)) = sym (tail-same m m [] v q)

@@ -15,6 +15,11 @@ abbrev pub line : List ℕ → List (List ℕ) → List ℕ
 line f [] = f ++ (10 ∷ [])
 line f (g ∷ gs) = f ++ (32 ∷ line g gs)
 
+-- one line after another
+abbrev pub lines : {X : Type 0} → (X → List ℕ) → List X → List ℕ
+lines f [] = []
+lines f (x ∷ xs) = f x ++ lines f xs
+
 -- the byte after a field: a blank inside a line, byte 10 at its end
 abbrev pub mark : End → ℕ
 mark Blank = 32

@@ -1,0 +1,3 @@
+mod LineParts
+mod Fronts
+mod Whole

@@ -1,0 +1,5 @@
+// The plate text: a plate to be inspected, line by line, and what is printed for it.
+mod lines;
+pub mod plate;
+pub mod read;
+pub mod unread;
