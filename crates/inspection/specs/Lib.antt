@@ -1,0 +1,4 @@
+pub mod Directions
+pub mod Groups
+pub mod Verdicts
+pub mod Soundness
