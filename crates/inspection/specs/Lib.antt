@@ -2,3 +2,5 @@ pub mod Directions
 pub mod Groups
 pub mod Verdicts
 pub mod Soundness
+pub mod Accounts
+pub mod Books

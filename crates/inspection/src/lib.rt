@@ -1,4 +1,5 @@
-// Inspection of plates: whether a list of rows is lawful and comes apart.
+// Inspection of plates, whether a list of rows is lawful and comes apart, and accounts of what was counted.
+pub mod account;
 mod groups;
 pub mod inspect;
 mod places;

@@ -1,0 +1,156 @@
+// The calls of an account.
+ghost use Prim.Native.Nat.{ℕ, _+_, _*_, _<_, _≤_};
+ghost use mathlib.Core.Path.{_≡_};
+ghost use mathlib.Core.List.{_++_};
+ghost use lib.ListN.{length as size, getD, drop};
+ghost use Rattle.std.specs.Orderings.{Decides, When};
+ghost use Rattle.std.specs.Options.{Cases as BySome};
+ghost use Rattle.std.specs.Vec.{made};
+ghost use Rattle.layout.specs.Limits.{Between, Outside};
+ghost use Rattle.layout.specs.Refusals.{Answered};
+ghost use Rattle.inspection.specs.Accounts.{EachNumber, SomeNumber, EachRow, SomeRow, LawfulBook, Left, Met, Places, SomePast, Summed, Tallied, account-cause, count-cause, opened};
+ghost use Rattle.inspection.specs.Books.{book};
+use super::Account;
+use layout::refusal::Refusal;
+use layout::row::Row;
+
+// The greatest ordered number, and the most runs that are counted at once.
+const GREATEST_NUMBER: u16 = 10_000;
+
+const MOST_ROWS: usize = 4_096;
+
+const MOST_KINDS: usize = 32;
+
+fn numbers_are_lawful(numbers: &[u16]) -> bool
+    ensures { λ r. ⌜ When r (EachNumber (Between 1 10000) (now (numbers .entry))) (SomeNumber (Outside 1 10000) (now (numbers .entry))) ⌝ }
+{
+    for n in numbers {
+        if *n < 1 || *n > GREATEST_NUMBER {
+            return false;
+        }
+    }
+    true
+}
+
+fn copy_numbers(from: &[u16], to: &mut [u16])
+    requires { ⌜ size (now from) ≤ size (now to) ⌝ }
+    ensures { λ _. ⌜ now (to .exit) ≡ now (from .entry) ++ drop (size (now (from .entry))) (now (to .entry)) ⌝ }
+{
+    to[0..from.len()].copy_from_slice(from);
+}
+
+// Whether each row's kind is known. All rows are looked at, spare ones too.
+fn kinds_are_known(rows: &[Row], kinds: u8) -> bool
+    ensures { λ r. ⌜ When r (EachRow (λ row. row .kind < kinds) (now (rows .entry))) (SomeRow (λ row. kinds ≤ row .kind) (now (rows .entry))) ⌝ }
+{
+    for row in rows {
+        if row.kind >= kinds {
+            return false;
+        }
+    }
+    true
+}
+
+// How many rows of each kind are kept: those whose spare is 0.
+fn tally(rows: &[Row]) -> [u16; 32]
+    requires known { ⌜ EachRow (λ row. row .kind < 32) (now rows) ⌝ }
+    requires few { ⌜ size (now rows) ≤ 4096 ⌝ }
+    ensures { λ r. ⌜ Tallied (now (rows .entry)) r ⌝ }
+{
+    let mut table = [0u16; 32];
+    for row in rows {
+        if row.spare == 0 {
+            table[row.kind as usize] += 1;
+        }
+    }
+    table
+}
+
+impl Account {
+    // An account of the ordered numbers, with nothing counted. All numbers are looked at before a refusal is chosen.
+    pub fn new(ordered: &[u16]) -> Result<Account, Refusal>
+        ensures answer { λ r. ⌜ Answered (account-cause (now (ordered .entry))) r ⌝ }
+        ensures account { λ r. ⌜ made r (λ a. book a ≡ opened (now (ordered .entry))) ⌝ }
+    {
+        if !numbers_are_lawful(ordered) {
+            return Err(Refusal::Quantity);
+        }
+        if ordered.len() > MOST_KINDS {
+            return Err(Refusal::TooMany);
+        }
+        let mut table = [0; 32];
+        copy_numbers(ordered, &mut table);
+        Ok(Account {
+            kinds: ordered.len() as u8,
+            ordered: table,
+            counted: [0; 32],
+        })
+    }
+
+    // The ordered number of each kind. It and the counts keep to the limits, whichever account it is.
+    pub fn ordered(&self) -> &[u16]
+        ensures numbers { λ r. ⌜ now r ≡ book (now (self .entry)) .ordered ⌝ }
+        ensures limits { λ _. ⌜ LawfulBook (book (now (self .entry))) ⌝ }
+    {
+        &self.ordered[0..self.kinds as usize]
+    }
+
+    // How many of each kind were counted.
+    pub fn counted(&self) -> &[u16]
+        ensures { λ r. ⌜ now r ≡ book (now (self .entry)) .counted ⌝ }
+    {
+        &self.counted[0..self.kinds as usize]
+    }
+
+    // The counts after so many runs of the kept rows, unless some kind would pass its ordered number.
+    fn counts_after(&self, tallies: &[u16], runs: u16) -> Option<[u16; 32]>
+        requires { ⌜ Places (now tallies) ⌝ }
+        ensures { λ r. ⌜ BySome r (SomePast (book (now (self .entry))) (now (tallies .entry)) runs) (λ sums. Summed (book (now (self .entry))) (now (tallies .entry)) runs (size (book (now (self .entry)) .ordered)) sums) ⌝ }
+    {
+        let mut sums = [0; 32];
+        let counted = self.counted();
+        for (k, number) in self.ordered().iter().enumerate() {
+            let sum = counted[k] as u32 + runs as u32 * tallies[k] as u32;
+            if sum > *number as u32 {
+                return None;
+            }
+            sums[k] = sum as u16;
+        }
+        Some(sums)
+    }
+
+    // Counts the kept rows of so many plates. Where it is refused, the account stays as it was.
+    pub fn count(&mut self, rows: &[Row], runs: u16) -> Result<(), Refusal>
+        ensures answer { λ r. ⌜ Answered (count-cause (book (now (self .entry))) (now (rows .entry)) runs) r ⌝ }
+        ensures left { λ r. ⌜ Left r (book (now (self .entry))) (now (rows .entry)) runs (book (now (self .exit))) ⌝ }
+    {
+        if runs < 1 || runs > GREATEST_NUMBER {
+            return Err(Refusal::Quantity);
+        }
+        if !kinds_are_known(rows, self.kinds) {
+            return Err(Refusal::UnknownKind);
+        }
+        if rows.len() > MOST_ROWS {
+            return Err(Refusal::Room);
+        }
+        let tallies = tally(rows);
+        let Some(sums) = self.counts_after(&tallies, runs) else {
+            return Err(Refusal::PastOrder);
+        };
+        self.counted = sums;
+        Ok(())
+    }
+
+    // Whether every kind has its ordered number.
+    pub fn met(&self) -> bool
+        ensures { λ r. ⌜ Decides r (Met (book (now (self .entry)))) ⌝ }
+    {
+        let counted = self.counted();
+        for (k, number) in self.ordered().iter().enumerate() {
+            if counted[k] != *number {
+                return false;
+            }
+        }
+        true
+    }
+}
