@@ -4,3 +4,4 @@ pub mod Verdicts
 pub mod Soundness
 pub mod Accounts
 pub mod Books
+pub mod Pinwheel

@@ -2,6 +2,9 @@
 pub mod account;
 mod groups;
 pub mod inspect;
+pub mod pinwheel;
 mod places;
 mod stages;
+#[cfg(test)]
+mod tests;
 pub mod verdict;
