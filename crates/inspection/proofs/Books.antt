@@ -7,10 +7,10 @@ use lib.ListN.{length as size, getD, take, drop, replicate, getD-replicate}
 use native.Mathlib.Omega.{arith}
 use Rattle.std.proofs.shelf.Lists.{take-at, length-append, length-drop, length-take-le, getD-take}
 use Rattle.layout.specs.declared.row.Row.{Row}
-use Rattle.layout.specs.Limits.{Between, Outside}
-use Rattle.layout.specs.Refusals.{Accepted}
+use Rattle.layout.specs.declared.refusal.Refusal.{Refusal}
+use Rattle.layout.specs.Refusals.{Accepted, RefusedBy, code-of}
 use Rattle.inspection.specs.declared.account.Account.{Account}
-use Rattle.inspection.specs.Accounts.{Book, LawfulBook, EachNumber, SomeNumber, EachRow, NonePast, Counted, Summed, Tallied, account-cause, count-cause, opened, kept}
+use Rattle.inspection.specs.Accounts.{Book, LawfulBook, NonePast, Counted, Summed, Tallied, rows-cause, count-cause, opened, kept}
 use Rattle.inspection.specs.Books.{book}
 
 -- every account keeps to the limits
@@ -46,10 +46,18 @@ opened-book ordered table few front =
     ap (λ (l : List ℕ). record { ordered = l; counted = take (size ordered) (replicate 32 0) }) front
     ∙ ap (λ (l : List ℕ). record { ordered = ordered; counted = l }) (take-zeros (size ordered) 32 few)
 
--- lawful numbers of at most 32 kinds give no cause to refuse an account
-pub nothing-wrong : (ordered : List ℕ) → EachNumber (Between 1 10000) ordered → size ordered ≤ 32 → Accepted (account-cause ordered)
-nothing-wrong ordered each few c (inl (e, (k, lt, bad))) = omega (arith, each k lt .0, each k lt .1, bad)
-nothing-wrong ordered each few c (inr (e, many)) = omega arith
+-- a refusal of the rows is one of the count
+pub rows-refused : (b : Book) (rows : List Row) (runs : ℕ) (e : Refusal) → RefusedBy (rows-cause (size (b .ordered)) rows runs) e → RefusedBy (count-cause b rows runs) e
+rows-refused b rows runs e h = record { holds = inl (h .holds); smallest = λ c lt o. smaller c lt o }
+  where
+    early : rows-cause (size (b .ordered)) rows runs (code-of e) → code-of e ≤ 5
+    early (inl o) = omega (arith, o .0)
+    early (inr (inl o)) = omega (arith, o .0)
+    early (inr (inr o)) = omega (arith, o .0)
+
+    smaller : (c : ℕ) → c < code-of e → count-cause b rows runs c → ⊥
+    smaller c lt (inl o) = h .smallest c lt o
+    smaller c lt (inr o) = omega (arith, o .0, early (h .holds))
 
 -- The sums of all kinds become the counts.
 module _ (b : Book) (rows : List Row) (tallies : List ℕ) (runs : ℕ) (sums : List ℕ) (lawful : LawfulBook b) (t : Tallied rows tallies) (s : Summed b tallies runs (size (b .ordered)) sums) where
@@ -59,11 +67,9 @@ module _ (b : Book) (rows : List Row) (tallies : List ℕ) (runs : ℕ) (sums : 
       let few = lawful .few in
       omega (arith, subst (λ (n : ℕ). getD (b .ordered) k 0 < getD (b .counted) k 0 + runs * n) (sym (t .each k (omega arith))) past, s .each k lt, s .bounded k lt)
 
-  pub accepted : Between 1 10000 runs → EachRow (λ r. r .kind < size (b .ordered)) rows → size rows ≤ 4096 → Accepted (count-cause b rows runs)
-  accepted between known few c (inl (e, bad)) = omega (arith, between .0, between .1, bad)
-  accepted between known few c (inr (inl (e, (i, lt, bad)))) = omega (arith, known i lt, bad)
-  accepted between known few c (inr (inr (inl (e, many)))) = omega arith
-  accepted between known few c (inr (inr (inr (e, (k, lt, past))))) = none-pass k lt past
+  pub accepted : Accepted (rows-cause (size (b .ordered)) rows runs) → Accepted (count-cause b rows runs)
+  accepted none c (inl o) = none c o
+  accepted none c (inr (e, (k, lt, past))) = none-pass k lt past
 
   pub counts : Counted b rows runs (record { ordered = b .ordered; counted = take (size (b .ordered)) sums })
   counts =
@@ -84,6 +90,3 @@ sums-bounded a tallies runs sums s k lt = omega (arith, s .bounded k (omega (ari
 pub counts-kept : (a : Account) (rows : List Row) (tallies : List ℕ) (runs : ℕ) (sums : List ℕ) → Tallied rows tallies → Summed (book a) tallies runs (size (book a .ordered)) sums → Counted (book a) rows runs (record { ordered = take (a .kinds) (a .ordered); counted = take (a .kinds) sums })
 counts-kept a rows tallies runs sums t s =
     subst (λ (n : ℕ). Counted (book a) rows runs (record { ordered = take (a .kinds) (a .ordered); counted = take n sums })) (as-many a) (counts (book a) rows tallies runs sums (lawful-book a) t s)
-
-pub known-kinds : (a : Account) (rows : List Row) → EachRow (λ r. r .kind < a .kinds) rows → EachRow (λ r. r .kind < size (book a .ordered)) rows
-known-kinds a rows known i lt = omega (arith, known i lt, as-many a)

@@ -75,13 +75,24 @@ pub record Tallied (rows : List Row) (table : List ℕ) : Type 0 where
 abbrev pub count-after : Book → List Row → ℕ → ℕ → ℕ
 count-after b rows runs k = getD (b .counted) k 0 + runs * kept k rows
 
--- why rows are not counted: 3 runs outside 1 to 10,000, 4 an unknown kind in any row, 5 more than 4,096 rows, 18 some kind would pass its ordered number
+-- why rows are not counted, whatever stands in the account: 3 runs outside 1 to 10,000, 4 an unknown kind in any row, 5 more than 4,096 rows
+abbrev pub rows-cause : ℕ → List Row → ℕ → ℕ → Type 0
+rows-cause kinds rows runs c =
+    ((c ≡ 3) × Outside 1 10000 runs)
+    ⊎ ((c ≡ 4) × SomeRow (λ r. kinds ≤ r .kind) rows)
+    ⊎ ((c ≡ 5) × (4096 < size rows))
+
+-- why rows are not counted: those causes, and 18 some kind would pass its ordered number
 abbrev pub count-cause : Book → List Row → ℕ → ℕ → Type 0
 count-cause b rows runs c =
-    ((c ≡ 3) × Outside 1 10000 runs)
-    ⊎ ((c ≡ 4) × SomeRow (λ r. size (b .ordered) ≤ r .kind) rows)
-    ⊎ ((c ≡ 5) × (4096 < size rows))
+    rows-cause (size (b .ordered)) rows runs c
     ⊎ ((c ≡ 18) × ((k : ℕ) × (k < size (b .ordered)) × (getD (b .ordered) k 0 < count-after b rows runs k)))
+
+-- rows that none of the first three causes holds of
+pub record LawfulRows (kinds : ℕ) (rows : List Row) (runs : ℕ) : Type 0 where
+  pub between : Between 1 10000 runs
+  pub known : EachRow (λ r. r .kind < kinds) rows
+  pub few : size rows ≤ 4096
 
 -- the account b became d: each kind has its count after the runs
 pub record Counted (b : Book) (rows : List Row) (runs : ℕ) (d : Book) : Type 0 where

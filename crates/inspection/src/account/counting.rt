@@ -8,7 +8,7 @@ ghost use Rattle.std.specs.Options.{Cases as BySome};
 ghost use Rattle.std.specs.Vec.{made};
 ghost use Rattle.layout.specs.Limits.{Between, Outside};
 ghost use Rattle.layout.specs.Refusals.{Answered};
-ghost use Rattle.inspection.specs.Accounts.{EachNumber, SomeNumber, EachRow, SomeRow, LawfulBook, Left, Met, Places, SomePast, Summed, Tallied, account-cause, count-cause, opened};
+ghost use Rattle.inspection.specs.Accounts.{EachNumber, SomeNumber, EachRow, SomeRow, LawfulBook, LawfulRows, Left, Met, Places, SomePast, Summed, Tallied, account-cause, count-cause, opened, rows-cause};
 ghost use Rattle.inspection.specs.Books.{book};
 use super::Account;
 use layout::refusal::Refusal;
@@ -39,19 +39,57 @@ fn copy_numbers(from: &[u16], to: &mut [u16])
     to[0..from.len()].copy_from_slice(from);
 }
 
+// Whether an account may be made of these numbers. All of them are looked at before a refusal is chosen.
+fn check_order(ordered: &[u16]) -> Result<(), Refusal>
+    ensures answer { λ r. ⌜ Answered (account-cause (now (ordered .entry))) r ⌝ }
+    ensures lawful { λ r. ⌜ made r (λ _. EachNumber (Between 1 10000) (now (ordered .entry)) × (size (now (ordered .entry)) ≤ 32)) ⌝ }
+{
+    if !numbers_are_lawful(ordered) {
+        return Err(Refusal::Quantity);
+    }
+    if ordered.len() > MOST_KINDS {
+        return Err(Refusal::TooMany);
+    }
+    Ok(())
+}
+
 // Whether each row's kind is known. All rows are looked at, spare ones too.
-fn kinds_are_known(rows: &[Row], kinds: u8) -> bool
+fn kinds_are_known(rows: &[Row], kinds: usize) -> bool
     ensures { λ r. ⌜ When r (EachRow (λ row. row .kind < kinds) (now (rows .entry))) (SomeRow (λ row. kinds ≤ row .kind) (now (rows .entry))) ⌝ }
 {
     for row in rows {
-        if row.kind >= kinds {
+        if row.kind as usize >= kinds {
             return false;
         }
     }
     true
 }
 
-// How many rows of each kind are kept: those whose spare is 0.
+// Whether rows of so many plates may be counted, whatever stands in the account.
+fn check_rows(rows: &[Row], kinds: usize, runs: u16) -> Result<(), Refusal>
+    ensures answer { λ r. ⌜ Answered (rows-cause kinds (now (rows .entry)) runs) r ⌝ }
+    ensures lawful { λ r. ⌜ made r (λ _. LawfulRows kinds (now (rows .entry)) runs) ⌝ }
+{
+    if runs < 1 || runs > GREATEST_NUMBER {
+        return Err(Refusal::Quantity);
+    }
+    if !kinds_are_known(rows, kinds) {
+        return Err(Refusal::UnknownKind);
+    }
+    if rows.len() > MOST_ROWS {
+        return Err(Refusal::Room);
+    }
+    Ok(())
+}
+
+// Whether the row's piece is kept.
+fn is_kept(row: Row) -> bool
+    ensures { λ r. ⌜ Decides r (row .spare ≡ 0) ⌝ }
+{
+    row.spare == 0
+}
+
+// How many rows of each kind are kept.
 fn tally(rows: &[Row]) -> [u16; 32]
     requires known { ⌜ EachRow (λ row. row .kind < 32) (now rows) ⌝ }
     requires few { ⌜ size (now rows) ≤ 4096 ⌝ }
@@ -59,7 +97,7 @@ fn tally(rows: &[Row]) -> [u16; 32]
 {
     let mut table = [0u16; 32];
     for row in rows {
-        if row.spare == 0 {
+        if is_kept(*row) {
             table[row.kind as usize] += 1;
         }
     }
@@ -67,17 +105,12 @@ fn tally(rows: &[Row]) -> [u16; 32]
 }
 
 impl Account {
-    // An account of the ordered numbers, with nothing counted. All numbers are looked at before a refusal is chosen.
+    // An account of the ordered numbers, with nothing counted.
     pub fn new(ordered: &[u16]) -> Result<Account, Refusal>
         ensures answer { λ r. ⌜ Answered (account-cause (now (ordered .entry))) r ⌝ }
         ensures account { λ r. ⌜ made r (λ a. book a ≡ opened (now (ordered .entry))) ⌝ }
     {
-        if !numbers_are_lawful(ordered) {
-            return Err(Refusal::Quantity);
-        }
-        if ordered.len() > MOST_KINDS {
-            return Err(Refusal::TooMany);
-        }
+        check_order(ordered)?;
         let mut table = [0; 32];
         copy_numbers(ordered, &mut table);
         Ok(Account {
@@ -124,15 +157,7 @@ impl Account {
         ensures answer { λ r. ⌜ Answered (count-cause (book (now (self .entry))) (now (rows .entry)) runs) r ⌝ }
         ensures left { λ r. ⌜ Left r (book (now (self .entry))) (now (rows .entry)) runs (book (now (self .exit))) ⌝ }
     {
-        if runs < 1 || runs > GREATEST_NUMBER {
-            return Err(Refusal::Quantity);
-        }
-        if !kinds_are_known(rows, self.kinds) {
-            return Err(Refusal::UnknownKind);
-        }
-        if rows.len() > MOST_ROWS {
-            return Err(Refusal::Room);
-        }
+        check_rows(rows, self.ordered().len(), runs)?;
         let tallies = tally(rows);
         let Some(sums) = self.counts_after(&tallies, runs) else {
             return Err(Refusal::PastOrder);

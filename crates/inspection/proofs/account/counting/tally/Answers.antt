@@ -1,14 +1,15 @@
 use mathlib.Core.List.{List}
-use mathlib.Core.Path.{_≡_, subst}
+use mathlib.Core.Path.{_≡_, refl, subst}
 use native.Mathlib.Omega.{arith}
 use lib.ListN.{take, getD}
 use Rattle.std.proofs.shelf.Lists.{length-take-le, take-all}
+use Rattle.std.proofs.shelf.Ways.{not-from-decides}
 use Rattle.layout.specs.declared.row.Row.{Row}
 use Rattle.layout.specs.Pieces.{blank}
 use Rattle.inspection.specs.Accounts.{Tallied}
 use Rattle.inspection.proofs.Tallies.{kept-bound, tallied-none, tallied-keep, tallied-spare}
 use Rattle.inspection.proofs.account.counting.tally.Needs as need
-use Rattle.inspection.proofs.account.counting.tally.Needs.{then-row-eq0, else-row-eq0}
+use Rattle.inspection.proofs.account.counting.tally.Needs.{then-is-kept, else-is-kept}
 
 pub loop-row-holds : need.loop-row-holds
 loop-row-holds c = tallied-none
@@ -24,9 +25,9 @@ pub loop-row-again : need.loop-row-again
 loop-row-again c =
     let rows = c .args .rows .now in
     let i = c .loop-row .row-index in
-    elim (c .if-row-eq0 .came) [
-      | then-row-eq0 w ↦ rw (w .table-is) (tallied-keep rows (c .loop-row .table) i (c .loop-row-test .taken) (c .pre .known i (c .loop-row-test .taken)) (w .if-row-eq0 .taken) (c .loop-row .inv))
-      | else-row-eq0 w ↦ rw (w .table-is) (tallied-spare rows (c .loop-row .table) i (c .loop-row-test .taken) (w .if-row-eq0 .left) (c .loop-row .inv))
+    elim (c .if-is-kept .came) [
+      | then-is-kept w ↦ rw (w .table-is) (tallied-keep rows (c .loop-row .table) i (c .loop-row-test .taken) (c .pre .known i (c .loop-row-test .taken)) (w .if-is-kept .ensures tt .0 refl) (c .loop-row .inv))
+      | else-is-kept w ↦ rw (w .table-is) (tallied-spare rows (c .loop-row .table) i (c .loop-row-test .taken) (not-from-decides _ (c .is-kept .ensures) (w .if-is-kept .left)) (c .loop-row .inv))
     ]
 
 pub returns : need.returns
