@@ -112,15 +112,3 @@ decides-stuck g ps n R rest u r lt gr m is-false d = (
 
 pub decides-end : (g : ℕ) (ps : Pieces) (n : ℕ) (R rest : Rect) → HoldsNone ps rest → Remains g ps n R rest → Decides true (Apart Exact g ps n R)
 decides-end g ps n R rest none m = (λ _. remains-none g ps n R rest none m, λ _. refl)
-
--- the first of two ways
-pub decides-first : {P A B : Type 0} (a : Bool) → P → a ≡ true → Decides a A → Decides a (P × (A ⊎ B))
-decides-first a p is-true first = (λ t. (p, inl (first .0 t)), λ _. is-true)
-
--- the second of two ways, where the first was no way
-pub decides-second : {P A B : Type 0} (a b : Bool) → P → a ≡ false → Decides a A → Decides b B → Decides b (P × (A ⊎ B))
-decides-second {A = A} {B = B} a b p is-false first second = (λ t. (p, inr (second .0 t)), λ h. go (h .1))
-  where
-    go : A ⊎ B → b ≡ true
-    go (inl x) = absurd (not-from-decides a first is-false x)
-    go (inr y) = second .1 y

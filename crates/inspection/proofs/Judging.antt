@@ -18,7 +18,7 @@ use Rattle.layout.specs.Apart.{swapped, Inside, Pieces, all-swapped, Exact, Apa
 use Rattle.layout.specs.Places.{place-of, pieces}
 use Rattle.layout.proofs.Carrying.{exact-fair}
 use Rattle.layout.proofs.Laws.{SomeOf, some-pieces}
-use Rattle.inspection.specs.declared.places.Direction.the-variants.{Length}
+use Rattle.inspection.specs.declared.places.Direction.the-variants.{Length, Width}
 use Rattle.inspection.specs.Directions.{no-rect, placed}
 use Rattle.inspection.specs.Soundness.{Sound, SoundSo, Known, PlacesSo}
 use Rattle.inspection.specs.Verdicts.{Plate, EachPanel, LawfulPanel, Faulty, NoneFaulty, FirstFaulty, PlateApart, Judged, Finding, plate-of}
@@ -103,13 +103,14 @@ module _ (kinds : List Panel) (rows : List Row) (places : List Rect) (many : siz
   table-sized lawful known i lt =
       subst (λ (Q : Rect). (Q .along .from < Q .along .to) × (Q .across .from < Q .across .to)) (sym (there i (omega arith))) (lawful-size kinds lawful (getD rows i blank) (known i (omega arith)))
 
-  pub table-inside : (length width : ℕ) → SoundSo length width kinds rows (size rows) → (i : ℕ) → i < size places → Inside (getD places i no-rect) (plate length width)
+  table-inside : (length width : ℕ) → SoundSo length width kinds rows (size rows) → (i : ℕ) → i < size places → Inside (getD places i no-rect) (plate length width)
   table-inside length width sound i lt =
       let s = sound i (omega arith) in
       subst (λ (Q : Rect). Inside Q (plate length width)) (sym (there i (omega arith))) ((omega arith, s .along), (omega arith, s .across))
 
-  pub table-apart : (length width saw stages : ℕ) (r : Bool) → Decides r (ComesApart Exact saw stages (plate length width) (placed Length places)) → Decides r (PlateApart (plate-of length width saw stages kinds rows))
-  table-apart length width saw stages r =
+  pub table-apart : (length width saw stages : ℕ) (r : Bool) → SoundSo length width kinds rows (size rows) → Decides r (Apart Exact saw (placed Length places) stages (plate length width) ⊎ Apart Exact saw (placed Width places) stages (swapped (plate length width))) → Decides r (PlateApart (plate-of length width saw stages kinds rows))
+  table-apart length width saw stages r sound either =
       decides-like r
-      (alike saw stages (plate length width) (placed Length places) (pieces kinds rows) (sym many) (λ i lt. sym (there i lt)))
-      (alike saw stages (plate length width) (pieces kinds rows) (placed Length places) many (λ i lt. there i (omega arith)))
+      (λ a. alike saw stages (plate length width) (placed Length places) (pieces kinds rows) (sym many) (λ i lt. sym (there i lt)) (table-inside length width sound, a))
+      (λ a. alike saw stages (plate length width) (pieces kinds rows) (placed Length places) many (λ i lt. there i (omega arith)) a .1)
+      either

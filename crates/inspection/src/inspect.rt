@@ -10,12 +10,11 @@ ghost use Rattle.inspection.specs.Soundness.{Sound, SoundSo, Known, PlacesSo};
 ghost use Rattle.inspection.specs.Verdicts.{EachPanel, SomePanel, LawfulPanel, BadPanel, Faulty, Finding, FirstFaulty, PlateApart, inspect-cause, number-of, plate-of};
 use crate::places::NO_RECT;
 use crate::places::place;
-use crate::stages::apart_by_length;
-use crate::stages::apart_by_width;
+use crate::places::whole_plate;
+use crate::stages::apart_either_way;
 use crate::verdict::Verdict;
 use layout::panel::Panel;
 use layout::rect::Rect;
-use layout::rect::Span;
 use layout::refusal::Refusal;
 use layout::row::Row;
 
@@ -97,32 +96,7 @@ fn comes_apart(length: u16, width: u16, saw: u8, stages: u8, kinds: &[Panel], ro
     let mut table = [NO_RECT; 4096];
     find_places(kinds, rows, &mut table);
     let places = &table[0..rows.len()];
-    let x = Span {
-        from: 0,
-        to: length as u32,
-    };
-    let y = Span {
-        from: 0,
-        to: width as u32,
-    };
-    apart_by_length(
-        places,
-        Rect {
-            along: x,
-            across: y,
-        },
-        saw as u32,
-        stages,
-    )
-        || apart_by_width(
-            places,
-            Rect {
-                along: y,
-                across: x,
-            },
-            saw as u32,
-            stages,
-        )
+    apart_either_way(places, whole_plate(length, width), saw as u32, stages)
 }
 
 // The verdict on a plate within the limits, and the row that goes with it.

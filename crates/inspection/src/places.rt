@@ -3,7 +3,7 @@ ghost use Prim.Native.Nat.{ℕ, _+_, _<_, _≤_};
 ghost use mathlib.Core.Path.{_≡_};
 ghost use lib.ListN.{length as size, getD};
 ghost use Rattle.std.specs.Orderings.{Decides};
-ghost use Rattle.layout.specs.Apart.{Inside, Exact};
+ghost use Rattle.layout.specs.Apart.{Inside, Exact, plate};
 ghost use Rattle.layout.specs.Pieces.{blank};
 ghost use Rattle.layout.specs.Places.{place-of};
 ghost use Rattle.inspection.specs.Directions.{seen, no-rect};
@@ -32,6 +32,21 @@ fn span(from: u16, size: u16) -> Span
     Span {
         from: from as u32,
         to: from as u32 + size as u32,
+    }
+}
+
+pub(crate) fn whole_plate(length: u16, width: u16) -> Rect
+    ensures { λ r. ⌜ r ≡ plate length width ⌝ }
+{
+    Rect {
+        along: Span {
+            from: 0,
+            to: length as u32,
+        },
+        across: Span {
+            from: 0,
+            to: width as u32,
+        },
     }
 }
 

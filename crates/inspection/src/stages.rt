@@ -1,16 +1,18 @@
 // Whether a part comes apart in the stages that are left.
 ghost use Prim.Native.Nat.{_+_, _<_, _^_};
 ghost use Rattle.std.specs.Orderings.{Decides};
-ghost use Rattle.layout.specs.Apart.{Exact, Apart, Sized};
+ghost use mathlib.Core.Logic.{_⊎_};
+ghost use Rattle.layout.specs.Apart.{Exact, Apart, Sized, swapped};
 ghost use Rattle.inspection.specs.declared.places.Direction.the-variants.{Length, Width};
 ghost use Rattle.inspection.specs.Directions.{placed};
 use crate::groups::finished;
 use crate::groups::group;
 use crate::places::Direction;
+use crate::places::view;
 use layout::rect::Rect;
 
 // Whether the part comes apart when the first stage divides its length, which is its extent along.
-pub(crate) fn apart_by_length(places: &[Rect], part: Rect, saw: u32, stages: u8) -> bool
+fn apart_by_length(places: &[Rect], part: Rect, saw: u32, stages: u8) -> bool
     requires sized { ⌜ Sized (placed Length (now places)) ⌝ }
     requires room { ⌜ (part .along .to + saw < 2 ^ 32) × (part .across .to + saw < 2 ^ 32) ⌝ }
     ensures { λ r. ⌜ Decides r (Apart Exact saw (placed Length (now (places .entry))) stages part) ⌝ }
@@ -34,7 +36,7 @@ pub(crate) fn apart_by_length(places: &[Rect], part: Rect, saw: u32, stages: u8)
 }
 
 // Whether the part comes apart when the first stage divides its width, which is its extent along.
-pub(crate) fn apart_by_width(places: &[Rect], part: Rect, saw: u32, stages: u8) -> bool
+fn apart_by_width(places: &[Rect], part: Rect, saw: u32, stages: u8) -> bool
     requires sized { ⌜ Sized (placed Width (now places)) ⌝ }
     requires room { ⌜ (part .along .to + saw < 2 ^ 32) × (part .across .to + saw < 2 ^ 32) ⌝ }
     ensures { λ r. ⌜ Decides r (Apart Exact saw (placed Width (now (places .entry))) stages part) ⌝ }
@@ -55,4 +57,14 @@ pub(crate) fn apart_by_width(places: &[Rect], part: Rect, saw: u32, stages: u8) 
         rest.along.from = u.to + saw;
     }
     true
+}
+
+// Whether the part comes apart, whichever direction comes first.
+pub(crate) fn apart_either_way(places: &[Rect], part: Rect, saw: u32, stages: u8) -> bool
+    requires sized { ⌜ Sized (placed Length (now places)) ⌝ }
+    requires room { ⌜ (part .along .to + saw < 2 ^ 32) × (part .across .to + saw < 2 ^ 32) ⌝ }
+    ensures { λ r. ⌜ Decides r (Apart Exact saw (placed Length (now (places .entry))) stages part ⊎ Apart Exact saw (placed Width (now (places .entry))) stages (swapped part)) ⌝ }
+{
+    apart_by_length(places, part, saw, stages)
+        || apart_by_width(places, view(Direction::Width, part), saw, stages)
 }
