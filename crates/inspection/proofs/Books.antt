@@ -90,3 +90,15 @@ sums-bounded a tallies runs sums s k lt = omega (arith, s .bounded k (omega (ari
 pub counts-kept : (a : Account) (rows : List Row) (tallies : List ℕ) (runs : ℕ) (sums : List ℕ) → Tallied rows tallies → Summed (book a) tallies runs (size (book a .ordered)) sums → Counted (book a) rows runs (record { ordered = take (a .kinds) (a .ordered); counted = take (a .kinds) sums })
 counts-kept a rows tallies runs sums t s =
     subst (λ (n : ℕ). Counted (book a) rows runs (record { ordered = take (a .kinds) (a .ordered); counted = take n sums })) (as-many a) (counts (book a) rows tallies runs sums (lawful-book a) t s)
+
+pub sums-lawful : (a : Account) (tallies : List ℕ) (runs : ℕ) (sums : List ℕ) → Summed (book a) tallies runs (size (book a .ordered)) sums → LawfulBook (record { ordered = take (a .kinds) (a .ordered); counted = take (a .kinds) sums })
+sums-lawful a tallies runs sums s =
+    lawful-book (record {
+      kinds = a .kinds;
+      ordered = a .ordered;
+      counted = sums;
+      few = a .few;
+      places = (a .places .0, s .places);
+      numbers = a .numbers;
+      bounded = sums-bounded a tallies runs sums s;
+    })

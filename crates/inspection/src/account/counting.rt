@@ -120,10 +120,9 @@ impl Account {
         })
     }
 
-    // The ordered number of each kind. It and the counts keep to the limits, whichever account it is.
+    // The ordered number of each kind.
     pub fn ordered(&self) -> &[u16]
-        ensures numbers { λ r. ⌜ now r ≡ book (now (self .entry)) .ordered ⌝ }
-        ensures limits { λ _. ⌜ LawfulBook (book (now (self .entry))) ⌝ }
+        ensures { λ r. ⌜ now r ≡ book (now (self .entry)) .ordered ⌝ }
     {
         &self.ordered[0..self.kinds as usize]
     }
@@ -152,10 +151,11 @@ impl Account {
         Some(sums)
     }
 
-    // Counts the kept rows of so many plates. Where it is refused, the account stays as it was.
+    // Counts the kept rows of so many plates. Where it is refused, the account stays as it was, and either way it keeps to its limits.
     pub fn count(&mut self, rows: &[Row], runs: u16) -> Result<(), Refusal>
         ensures answer { λ r. ⌜ Answered (count-cause (book (now (self .entry))) (now (rows .entry)) runs) r ⌝ }
         ensures left { λ r. ⌜ Left r (book (now (self .entry))) (now (rows .entry)) runs (book (now (self .exit))) ⌝ }
+        ensures limits { λ _. ⌜ LawfulBook (book (now (self .exit))) ⌝ }
     {
         check_rows(rows, self.ordered().len(), runs)?;
         let tallies = tally(rows);
