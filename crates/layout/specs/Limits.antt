@@ -31,7 +31,7 @@ SomeKind P kinds = (i : ℕ) × (i < length kinds) × P (getD kinds i no-kind)
 abbrev pub LawfulSides : Kind → Type 0
 LawfulSides k = Between 50 3200 (k .panel .length) × Between 50 3200 (k .panel .width)
 
--- one side is not
+-- a side is below 50 or above 3,200
 abbrev pub BadSides : Kind → Type 0
 BadSides k = Outside 50 3200 (k .panel .length) ⊎ Outside 50 3200 (k .panel .width)
 
@@ -39,10 +39,10 @@ BadSides k = Outside 50 3200 (k .panel .length) ⊎ Outside 50 3200 (k .panel .w
 abbrev pub LawfulValue : Kind → Type 0
 LawfulValue k = Between 1 1000000 (k .value)
 
--- it is not
+-- the value is below 1 or above 1,000,000
 abbrev pub BadValue : Kind → Type 0
 BadValue k = Outside 1 1000000 (k .value)
 
 -- the table of a task has 32 places
-abbrev pub Places : List Kind → Type 0
-Places table = length table ≡ 32
+abbrev pub Full : List Kind → Type 0
+Full table = length table ≡ 32

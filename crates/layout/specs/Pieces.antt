@@ -28,9 +28,10 @@ across p (suc n) = p .length
 abbrev pub panel-of : List Panel → Row → Panel
 panel-of panels r = getD panels (r .kind) no-panel
 
--- a piece covers x to `end` and y to `top`
+-- a piece covers x to its end
 abbrev pub end : List Panel → Row → ℕ
 end panels r = r .x + along (panel-of panels r) (r .turned)
 
+-- and y to its top
 abbrev pub top : List Panel → Row → ℕ
 top panels r = r .y + across (panel-of panels r) (r .turned)

@@ -5,7 +5,7 @@ use Rattle.std.specs.declared.result.Result.the-variants.{Ok, Err}
 use Rattle.layout.specs.declared.refusal.Refusal.{Refusal}
 use Rattle.layout.specs.declared.refusal.Refusal.the-variants.{Side, Value, Quantity, UnknownKind, Room, Setting, Text, JobNumber, TooMany, PlateOut, SlipWritten, NothingToSettle, NothingOwed, OnlyEmpty, Reach, PastOrder}
 
--- the number of each refusal: 1 to 8 come from what a call is given, 11 to 18 from what stands already
+-- the number of each refusal
 abbrev pub code-of : Refusal → ℕ
 code-of Side = 1
 code-of Value = 2

@@ -27,9 +27,11 @@ pub record Shape : Type 0 where
   pub width : ℕ
   pub forms : List Form
 
+-- what is left of a kind without its value
 abbrev pub form : Kind → Form
 form k = record { panel = k .panel; wanted = k .wanted }
 
+-- what is left of a task without its values
 abbrev pub shape : Model → Shape
 shape m = record { length = m .length; width = m .width; forms = map form (m .kinds) }
 

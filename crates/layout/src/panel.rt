@@ -7,6 +7,7 @@ pub const LEAST_SIDE: u16 = 50;
 
 pub const GREATEST_SIDE: u16 = 3_200;
 
+// The greatest value of a kind; the least is 1.
 pub const GREATEST_VALUE: u32 = 1_000_000;
 
 // The most kinds that a task has.

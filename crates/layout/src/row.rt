@@ -1,7 +1,9 @@
 // Rows: the pieces of a plate.
+ghost use mathlib.Core.Path.{_≡_};
+ghost use Rattle.layout.specs.Pieces.{blank};
 
-// One piece. The fields are plain numbers, since a caller may bring any: lawful are kind 0 to 31, turned 0 or 1, segment 0 to 7, strip 0 to 63
-// and spare 0 or 1. Turned above 1 is a forbidden turn, and spare above 1 is spare. The corner x, y is the lowest of the piece.
+// One piece. The fields are plain numbers, since a caller may bring any. In what the office writes, kind is at most 31, segment at most 7 and strip
+// at most 63, and turned and spare are 0 or 1. No kind allows a turn above 1, and all above 0 are spare. The corner x, y is the one nearest to 0, 0.
 #[derive(Clone, Copy)]
 pub struct Row {
     pub kind: u8,
@@ -13,6 +15,7 @@ pub struct Row {
     pub y: u16,
 }
 
+// No piece: all zeros.
 pub const BLANK: Row = Row {
     kind: 0,
     turned: 0,
@@ -22,3 +25,12 @@ pub const BLANK: Row = Row {
     x: 0,
     y: 0,
 };
+
+impl Row {
+    // The row that fills a list past its pieces.
+    pub fn blank() -> Row
+        ensures { λ r. ⌜ r ≡ blank ⌝ }
+    {
+        BLANK
+    }
+}

@@ -1,0 +1,5 @@
+mod LineParts
+mod Whole
+mod Spots
+mod Unique
+mod Sums

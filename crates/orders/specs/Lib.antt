@@ -1,0 +1,6 @@
+pub mod Lines
+pub mod Orders
+pub mod Places
+pub mod Replies
+pub mod Printed
+pub mod Judged

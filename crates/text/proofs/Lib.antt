@@ -1,0 +1,5 @@
+pub mod Codes
+mod Numerals
+mod Words
+mod Lines
+pub mod Parts
