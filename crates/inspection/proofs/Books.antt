@@ -1,7 +1,7 @@
 -- Accounts as books.
-use Prim.Native.Nat.{ℕ, zero, suc, _+_, _*_, _-_, _≤_, _<_}
+use Prim.Native.Nat.{ℕ, zero, suc, _+_, _*_, _≤_, _<_}
 use mathlib.Core.Path.{_≡_, refl, sym, ap, subst, _∙_}
-use mathlib.Core.Logic.{_⊎_, inl, inr}
+use mathlib.Core.Logic.{inl, inr}
 use mathlib.Core.List.{List, [], _∷_, _++_}
 use lib.ListN.{length as size, getD, take, drop, replicate, getD-replicate}
 use native.Mathlib.Omega.{arith}
@@ -17,10 +17,10 @@ use Rattle.inspection.specs.Books.{book}
 pub lawful-book : (a : Account) → LawfulBook (book a)
 lawful-book a =
     let few = a .few in
-    let long = length-take-le (a .kinds) (a .ordered) (omega (arith, a .places)) in
+    let long = length-take-le (a .kinds) (a .ordered) (omega (arith, a .full)) in
     record {
       few = omega (arith, long);
-      many = omega (arith, long, length-take-le (a .kinds) (a .counted) (omega (arith, a .places)));
+      many = omega (arith, long, length-take-le (a .kinds) (a .counted) (omega (arith, a .full)));
       numbers = a .numbers;
       bounded = λ k lt. omega (arith, getD-take (a .kinds) (a .counted) k 0 (omega (arith, long)), getD-take (a .kinds) (a .ordered) k 0 (omega (arith, long)), a .bounded k (omega (arith, long)));
     }
@@ -76,13 +76,13 @@ module _ (b : Book) (rows : List Row) (tallies : List ℕ) (runs : ℕ) (sums : 
       let few = lawful .few in
       record {
         ordered = refl;
-        many = omega (arith, lawful .many, length-take-le (size (b .ordered)) sums (omega (arith, s .places)));
+        many = omega (arith, lawful .many, length-take-le (size (b .ordered)) sums (omega (arith, s .full)));
         each = λ k lt. getD-take (size (b .ordered)) sums k 0 lt ∙ s .each k lt ∙ ap (λ (n : ℕ). getD (b .counted) k 0 + runs * n) (t .each k (omega arith));
       }
 
 -- the same for an account and its places
 pub as-many : (a : Account) → size (book a .ordered) ≡ a .kinds
-as-many a = let few = a .few in length-take-le (a .kinds) (a .ordered) (omega (arith, a .places))
+as-many a = let few = a .few in length-take-le (a .kinds) (a .ordered) (omega (arith, a .full))
 
 pub sums-bounded : (a : Account) (tallies : List ℕ) (runs : ℕ) (sums : List ℕ) → Summed (book a) tallies runs (size (book a .ordered)) sums → NonePast (a .kinds) (a .ordered) sums
 sums-bounded a tallies runs sums s k lt = omega (arith, s .bounded k (omega (arith, as-many a)), getD-take (a .kinds) (a .ordered) k 0 lt)
@@ -98,7 +98,7 @@ sums-lawful a tallies runs sums s =
       ordered = a .ordered;
       counted = sums;
       few = a .few;
-      places = (a .places .0, s .places);
+      full = (a .full .0, s .full);
       numbers = a .numbers;
       bounded = sums-bounded a tallies runs sums s;
     })

@@ -1,5 +1,5 @@
 -- To decide whether a part comes apart, make every cut of a stage: nothing is lost by it.
-use Prim.Native.Nat.{ℕ, zero, suc, _+_, _-_, _≤_, _<_, min, max}
+use Prim.Native.Nat.{ℕ, zero, suc, _+_, _-_, _≤_, _<_}
 use mathlib.Core.Path.{_≡_, refl, subst}
 use mathlib.Core.Logic.{_⊎_, inl, inr}
 use mathlib.Core.Bool.{Bool, true, false}
@@ -11,7 +11,7 @@ use Rattle.layout.specs.declared.rect.Rect.{Rect}
 use Rattle.layout.specs.Apart.{swapped, Within, Inside, Pieces, all-swapped, Holds, Clear, before, after, Exact, Finished, Apart, Sized}
 use Rattle.layout.specs.Apart.Apart.{done, cut, next}
 use Rattle.layout.specs.Changes.{slice, Solid}
-use Rattle.layout.proofs.Carrying.{Fair, exact-fair}
+use Rattle.layout.proofs.Carrying.{exact-fair}
 use Rattle.layout.proofs.Laws.{restrict, nothing}
 use Rattle.inspection.specs.Groups.{Group, HoldsNone}
 

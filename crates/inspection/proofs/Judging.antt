@@ -14,10 +14,10 @@ use Rattle.layout.specs.declared.panel.Panel.{Panel}
 use Rattle.layout.specs.declared.row.Row.{Row}
 use Rattle.layout.specs.declared.rect.Rect.{Rect}
 use Rattle.layout.specs.Pieces.{blank, panel-of, along, across, end, top}
-use Rattle.layout.specs.Apart.{swapped, Inside, Pieces, all-swapped, Exact, Apart, ComesApart, plate, Sized}
-use Rattle.layout.specs.Places.{place-of, pieces}
+use Rattle.layout.specs.Apart.{swapped, Inside, Exact, Apart, plate, Sized}
+use Rattle.layout.specs.Places.{pieces}
 use Rattle.layout.proofs.Carrying.{exact-fair}
-use Rattle.layout.proofs.Laws.{SomeOf, some-pieces}
+use Rattle.layout.proofs.Laws.{same-places}
 use Rattle.inspection.specs.declared.places.Direction.the-variants.{Length, Width}
 use Rattle.inspection.specs.Directions.{no-rect, placed}
 use Rattle.inspection.specs.Soundness.{Sound, SoundSo, Known, PlacesSo}
@@ -64,24 +64,6 @@ one-verdict p v k w j (inr (inr a)) (inr (inr b)) = (omega (arith, a .0, b .0), 
 pub found : (p : Plate) (v k : ℕ) → Judged p v k → Finding p v k
 found p v k h = record { holds = h; only = λ w j o. one-verdict p v k w j h o }
 
--- Pieces in the same places come apart alike.
-same-place : (Q P : Rect) → Q ≡ P → Inside Q P × Inside P Q
-same-place Q P e = subst (λ (R : Rect). Inside Q R × Inside R Q) e (omega arith, omega arith)
-
-module _ (g s : ℕ) (R : Rect) (ps qs : Pieces) (many : qs .count ≡ ps .count) (same : (i : ℕ) → i < qs .count → qs .place i ≡ ps .place i) where
-  all-stay : SomeOf ps qs
-  all-stay = record { pick = λ i. i; known = λ i lt. omega arith; apart = λ i j _ _ e. e; stays = λ i lt. same-place (qs .place i) (ps .place i) (same i lt) }
-
-  all-stay-swapped : SomeOf (all-swapped ps) (all-swapped qs)
-  all-stay-swapped = record { pick = λ i. i; known = λ i lt. omega arith; apart = λ i j _ _ e. e; stays = λ i lt. let e = same-place (qs .place i) (ps .place i) (same i lt) in ((e .0 .1, e .0 .0), (e .1 .1, e .1 .0)) }
-
-  pub alike : ComesApart Exact g s R ps → ComesApart Exact g s R qs
-  alike (inside, either) = (λ i lt. let e = same-place (qs .place i) (ps .place i) (same i lt) in let h = inside i (omega arith) in omega arith, go either)
-    where
-      go : Apart Exact g ps s R ⊎ Apart Exact g (all-swapped ps) s (swapped R) → Apart Exact g qs s R ⊎ Apart Exact g (all-swapped qs) s (swapped R)
-      go (inl a) = inl (some-pieces exact-fair all-stay (omega arith) a)
-      go (inr a) = inr (some-pieces exact-fair all-stay-swapped (omega arith) a)
-
 -- lawful kinds give pieces with some length and some width
 pub lawful-size : (kinds : List Panel) → EachPanel LawfulPanel kinds → (r : Row) → r .kind < size kinds → (r .x < end kinds r) × (r .y < top kinds r)
 lawful-size kinds lawful r lt = go (r .turned) (lawful (r .kind) lt)
@@ -111,6 +93,6 @@ module _ (kinds : List Panel) (rows : List Row) (places : List Rect) (many : siz
   pub table-apart : (length width saw stages : ℕ) (r : Bool) → SoundSo length width kinds rows (size rows) → Decides r (Apart Exact saw (placed Length places) stages (plate length width) ⊎ Apart Exact saw (placed Width places) stages (swapped (plate length width))) → Decides r (PlateApart (plate-of length width saw stages kinds rows))
   table-apart length width saw stages r sound either =
       decides-like r
-      (λ a. alike saw stages (plate length width) (placed Length places) (pieces kinds rows) (sym many) (λ i lt. sym (there i lt)) (table-inside length width sound, a))
-      (λ a. alike saw stages (plate length width) (pieces kinds rows) (placed Length places) many (λ i lt. there i (omega arith)) a .1)
+      (λ a. same-places exact-fair saw stages (plate length width) (placed Length places) (pieces kinds rows) (sym many) (λ i lt. sym (there i lt)) (table-inside length width sound, a))
+      (λ a. same-places exact-fair saw stages (plate length width) (pieces kinds rows) (placed Length places) many (λ i lt. there i (omega arith)) a .1)
       either

@@ -1,17 +1,15 @@
 -- The steps of the loops over the places.
-use Prim.Native.Nat.{ℕ, zero, suc, _+_, _-_, _≤_, _<_}
-use mathlib.Core.Path.{_≡_, refl, sym, ap, _∙_, subst}
+use Prim.Native.Nat.{ℕ, _+_, _≤_, _<_}
+use mathlib.Core.Path.{_≡_, sym, ap, _∙_, subst}
 use mathlib.Core.Logic.{_⊎_, inl, inr}
 use mathlib.Core.Bool.{Bool, true, false}
 use native.Mathlib.Omega.{arith}
 use native.Mathlib.Decide.{ℕ-discrete, decLe}
 use Rattle.std.specs.declared.option.Option.{Option}
 use Rattle.std.specs.declared.option.Option.the-variants.{Some, None}
-use Rattle.std.specs.Options.{Cases}
 use Rattle.layout.specs.declared.rect.Span.{Span}
 use Rattle.layout.specs.declared.rect.Rect.{Rect}
 use Rattle.layout.specs.Apart.{Inside, Within, Pieces, Holds, Exact, Finished, Sized}
-use Rattle.layout.specs.Changes.{slice, Solid}
 use Rattle.inspection.specs.Groups.{HoldsNone, Lowest, LowestSo, Lower, first, Growing, Longer, NoneLonger, Group, Whole, FinishedSo}
 use Rattle.inspection.proofs.Decide.{piece-solid, solid-grows}
 

@@ -47,10 +47,10 @@ kept-spare k r spare = rw (ne-eqb (r .spare) 0 spare) (nothing (eqb (r .kind) k)
     nothing false = refl
 
 pub tallied-none : Tallied [] (replicate 32 0)
-tallied-none = record { places = length-replicate {A = ℕ} 32 0; each = λ k lt. getD-replicate {A = ℕ} 32 k 0 0 lt }
+tallied-none = record { full = length-replicate {A = ℕ} 32 0; each = λ k lt. getD-replicate {A = ℕ} 32 k 0 0 lt }
 
 pub tallied-keep : (rows : List Row) (table : List ℕ) (i : ℕ) → i < size rows → getD rows i blank .kind < 32 → getD rows i blank .spare ≡ 0 → Tallied (take i rows) table → Tallied (take (i + 1) rows) (set table (getD rows i blank .kind) (getD table (getD rows i blank .kind) 0 + 1))
-tallied-keep rows table i lt known keep t = record { places = length-set table kind _ ∙ t .places; each = λ k small. go k small (ℕ-discrete k kind) }
+tallied-keep rows table i lt known keep t = record { full = length-set table kind _ ∙ t .full; each = λ k small. go k small (ℕ-discrete k kind) }
   where
     r : Row
     r = getD rows i blank
@@ -61,11 +61,11 @@ tallied-keep rows table i lt known keep t = record { places = length-set table k
     go : (k : ℕ) → k < 32 → Dec (k ≡ kind) → getD (set table kind (getD table kind 0 + 1)) k 0 ≡ kept k (take (i + 1) rows)
     go k small (yes e) =
         ap (λ (j : ℕ). getD (set table kind (getD table kind 0 + 1)) j 0) e
-        ∙ getD-set-same table kind _ 0 (omega (arith, t .places))
+        ∙ getD-set-same table kind _ 0 (omega (arith, t .full))
         ∙ omega (arith, kept-more k i rows lt, t .each k small, kept-same k r keep (sym e), ap (λ (j : ℕ). getD table j 0) e)
     go k small (no ne) =
         getD-set-other table kind k _ 0 ne
         ∙ omega (arith, kept-more k i rows lt, t .each k small, kept-other k r (λ e. ne (sym e)))
 
 pub tallied-spare : (rows : List Row) (table : List ℕ) (i : ℕ) → i < size rows → (getD rows i blank .spare ≡ 0 → ⊥) → Tallied (take i rows) table → Tallied (take (i + 1) rows) table
-tallied-spare rows table i lt spare t = record { places = t .places; each = λ k small. omega (arith, kept-more k i rows lt, t .each k small, kept-spare k (getD rows i blank) spare) }
+tallied-spare rows table i lt spare t = record { full = t .full; each = λ k small. omega (arith, kept-more k i rows lt, t .each k small, kept-spare k (getD rows i blank) spare) }

@@ -1,10 +1,9 @@
 -- The pinwheel never comes apart.
 use Prim.Native.Nat.{ℕ, zero, suc, _+_, _≤_, _<_}
-use mathlib.Core.Path.{_≡_}
 use mathlib.Core.Logic.{_⊎_, inl, inr}
 use native.Mathlib.Decide.{decLe}
 use native.Mathlib.Omega.{arith}
-use Rattle.layout.specs.Apart.{Pieces, all-swapped, Holds, Clear, ComesApart, Exact, Sized, plate}
+use Rattle.layout.specs.Apart.{Pieces, all-swapped, Holds, ComesApart, Exact, Sized, plate}
 use Rattle.layout.specs.Places.{pieces}
 use Rattle.layout.proofs.Carrying.{exact-fair}
 use Rattle.layout.proofs.Laws.{smaller-saw}

@@ -35,8 +35,8 @@ abbrev pub SomeRow : (Row → Type 0) → List Row → Type 0
 SomeRow P rows = (i : ℕ) × (i < size rows) × P (getD rows i blank)
 
 -- the table of an account has 32 places
-abbrev pub Places : List ℕ → Type 0
-Places table = size table ≡ 32
+abbrev pub Full : List ℕ → Type 0
+Full table = size table ≡ 32
 
 -- none of the first n kinds was counted past its ordered number
 abbrev pub NonePast : ℕ → List ℕ → List ℕ → Type 0
@@ -68,7 +68,7 @@ kept k (r ∷ rows) = kept-by k r + kept k rows
 
 -- the table has the number of kept rows of each kind
 pub record Tallied (rows : List Row) (table : List ℕ) : Type 0 where
-  pub places : Places table
+  pub full : Full table
   pub each : (k : ℕ) → k < 32 → getD table k 0 ≡ kept k rows
 
 -- what the kind k has after so many runs of these rows
@@ -115,7 +115,7 @@ SomePast b table runs = (k : ℕ) × (k < size (b .ordered)) × (getD (b .ordere
 
 -- the sums of the first n kinds, none past its ordered number
 pub record Summed (b : Book) (table : List ℕ) (runs n : ℕ) (sums : List ℕ) : Type 0 where
-  pub places : Places sums
+  pub full : Full sums
   pub each : (k : ℕ) → k < n → getD sums k 0 ≡ sum-at b table runs k
   pub bounded : NonePast n (b .ordered) sums
 

@@ -1,9 +1,8 @@
 -- Places as the functions of a stage see them: with the direction that its cuts divide first.
-use Prim.Native.Nat.{ℕ}
 use mathlib.Core.List.{List}
 use lib.ListN.{length as size, getD}
 use Rattle.layout.specs.declared.rect.Rect.{Rect}
-use Rattle.layout.specs.Apart.{swapped, Pieces, Sized}
+use Rattle.layout.specs.Apart.{swapped, Pieces}
 use Rattle.inspection.specs.declared.places.Direction.{Direction}
 use Rattle.inspection.specs.declared.places.Direction.the-variants.{Length, Width}
 

@@ -1,6 +1,6 @@
 -- The number of each verdict, and which verdict a plate gets.
 use Prim.Native.Nat.{ℕ, _≤_, _<_}
-use mathlib.Core.Bool.{Bool, true, false}
+use mathlib.Core.Bool.{false}
 use mathlib.Core.Path.{_≡_}
 use mathlib.Core.Logic.{_⊎_}
 use mathlib.Core.List.{List}
@@ -45,7 +45,7 @@ SomePanel P kinds = (i : ℕ) × (i < size kinds) × P (getD kinds i no-panel)
 abbrev pub LawfulPanel : Panel → Type 0
 LawfulPanel k = Between 50 3000 (k .length) × Between 50 3000 (k .width)
 
--- one side is not
+-- a side of the kind is below 50 or above 3,000
 abbrev pub BadPanel : Panel → Type 0
 BadPanel k = Outside 50 3000 (k .length) ⊎ Outside 50 3000 (k .width)
 

@@ -2,7 +2,8 @@
 ghost use Prim.Native.Nat.{_≤_};
 ghost use lib.ListN.{take};
 ghost use Rattle.layout.specs.Limits.{Between};
-ghost use Rattle.inspection.specs.Accounts.{EachNumber, NonePast, Places};
+ghost use Rattle.inspection.specs.Accounts.{EachNumber, Full, NonePast};
+use crate::limits::MOST_KINDS;
 
 mod counting;
 
@@ -11,10 +12,10 @@ mod counting;
 pub struct Account {
     // how many of the places have a kind
     kinds: u8,
-    ordered: [u16; 32],
-    counted: [u16; 32],
+    ordered: [u16; MOST_KINDS],
+    counted: [u16; MOST_KINDS],
     ghost few: { kinds ≤ 32 },
-    ghost places: { Places ordered × Places counted },
+    ghost full: { Full ordered × Full counted },
     ghost numbers: { EachNumber (Between 1 10000) (take kinds ordered) },
     ghost bounded: { NonePast kinds ordered counted },
 }

@@ -1,5 +1,5 @@
 // Inspection of a plate.
-ghost use Prim.Native.Nat.{ℕ, _<_, _≤_};
+ghost use Prim.Native.Nat.{_<_, _≤_};
 ghost use lib.ListN.{length as size};
 ghost use Rattle.std.specs.Orderings.{Decides, When};
 ghost use Rattle.std.specs.Options.{Cases as BySome};
@@ -8,6 +8,12 @@ ghost use Rattle.layout.specs.Limits.{Between, Outside};
 ghost use Rattle.layout.specs.Refusals.{Answered};
 ghost use Rattle.inspection.specs.Soundness.{Sound, SoundSo, Known, PlacesSo};
 ghost use Rattle.inspection.specs.Verdicts.{EachPanel, SomePanel, LawfulPanel, BadPanel, Faulty, Finding, FirstFaulty, PlateApart, inspect-cause, number-of, plate-of};
+use crate::limits::GREATEST_SAW;
+use crate::limits::GREATEST_SIDE;
+use crate::limits::LEAST_SIDE;
+use crate::limits::MOST_KINDS;
+use crate::limits::MOST_ROWS;
+use crate::limits::MOST_STAGES;
 use crate::places::NO_RECT;
 use crate::places::place;
 use crate::places::whole_plate;
@@ -18,19 +24,7 @@ use layout::rect::Rect;
 use layout::refusal::Refusal;
 use layout::row::Row;
 
-// The least and the greatest side of a plate and of a kind that are inspected.
-const LEAST_SIDE: u16 = 50;
-
-const GREATEST_SIDE: u16 = 3_000;
-
-const MOST_ROWS: usize = 4_096;
-
-const GREATEST_SAW: u8 = 20;
-
-const MOST_STAGES: u8 = 7;
-
-const MOST_KINDS: usize = 32;
-
+// Whether a side of a plate or of a kind is 50 to 3,000.
 fn side_is_lawful(side: u16) -> bool
     ensures { λ r. ⌜ When r (Between 50 3000 side) (Outside 50 3000 side) ⌝ }
 {
@@ -93,7 +87,7 @@ fn comes_apart(length: u16, width: u16, saw: u8, stages: u8, kinds: &[Panel], ro
     requires few { ⌜ size (now rows) ≤ 4096 ⌝ }
     ensures { λ r. ⌜ Decides r (PlateApart (plate-of length width saw stages (now (kinds .entry)) (now (rows .entry)))) ⌝ }
 {
-    let mut table = [NO_RECT; 4096];
+    let mut table = [NO_RECT; MOST_ROWS];
     find_places(kinds, rows, &mut table);
     let places = &table[0..rows.len()];
     apart_either_way(places, whole_plate(length, width), saw as u32, stages)

@@ -2,6 +2,7 @@
 pub mod account;
 mod groups;
 pub mod inspect;
+pub mod limits;
 pub mod pinwheel;
 mod places;
 mod stages;

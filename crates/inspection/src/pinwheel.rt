@@ -5,6 +5,7 @@ use layout::panel::Panel;
 use layout::row::BLANK;
 use layout::row::Row;
 
+// A panel that may be turned.
 fn turnable(length: u16, width: u16) -> Panel
     ensures { λ r. ⌜ r ≡ turning length width ⌝ }
 {
@@ -15,12 +16,14 @@ fn turnable(length: u16, width: u16) -> Panel
     }
 }
 
+// Its kinds, 100x50 and 50x50.
 fn wheel_kinds() -> [Panel; 2]
     ensures { λ r. ⌜ r ≡ wheel-kinds ⌝ }
 {
     [turnable(100, 50), turnable(50, 50)]
 }
 
+// A piece of some kind at x and y.
 fn piece(kind: u8, turned: u8, x: u16, y: u16) -> Row
     ensures { λ r. ⌜ r ≡ row-at kind turned x y ⌝ }
 {
@@ -33,6 +36,7 @@ fn piece(kind: u8, turned: u8, x: u16, y: u16) -> Row
     }
 }
 
+// Its rows: the four around, and the one in the middle.
 fn wheel_rows() -> [Row; 5]
     ensures { λ r. ⌜ r ≡ wheel-rows ⌝ }
 {

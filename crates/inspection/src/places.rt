@@ -1,12 +1,11 @@
 // Where the pieces of a list of rows lie, and how they lie to a part.
-ghost use Prim.Native.Nat.{ℕ, _+_, _<_, _≤_};
+ghost use Prim.Native.Nat.{_+_, _<_};
 ghost use mathlib.Core.Path.{_≡_};
-ghost use lib.ListN.{length as size, getD};
+ghost use lib.ListN.{length as size};
 ghost use Rattle.std.specs.Orderings.{Decides};
 ghost use Rattle.layout.specs.Apart.{Inside, Exact, plate};
-ghost use Rattle.layout.specs.Pieces.{blank};
 ghost use Rattle.layout.specs.Places.{place-of};
-ghost use Rattle.inspection.specs.Directions.{seen, no-rect};
+ghost use Rattle.inspection.specs.Directions.{seen};
 use layout::panel::Panel;
 use layout::rect::Rect;
 use layout::rect::Span;
@@ -25,7 +24,7 @@ pub(crate) const NO_RECT: Rect = Rect {
     across: Span { from: 0, to: 0 },
 };
 
-// The sum is made in 32 bits, so it is right for every two numbers.
+// The extent of some size that begins at `from`. The sum is made in 32 bits, so that it is right for every two numbers.
 fn span(from: u16, size: u16) -> Span
     ensures { λ r. ⌜ (r .from ≡ from) × (r .to ≡ from + size) ⌝ }
 {
@@ -35,6 +34,7 @@ fn span(from: u16, size: u16) -> Span
     }
 }
 
+// The part that a plate is before it is cut.
 pub(crate) fn whole_plate(length: u16, width: u16) -> Rect
     ensures { λ r. ⌜ r ≡ plate length width ⌝ }
 {
@@ -75,6 +75,7 @@ pub(crate) fn view(direction: Direction, r: Rect) -> Rect
     }
 }
 
+// Whether a rectangle lies inside another.
 pub(crate) fn inside(q: Rect, r: Rect) -> bool
     ensures { λ b. ⌜ Decides b (Inside q r) ⌝ }
 {

@@ -1,12 +1,12 @@
 -- What comes apart still does when it is moved, when part of it is taken, when pieces are left out or named otherwise, and when everything is
 -- shortened and the saw widened by as much. This is one induction; the laws of Laws.antt follow from it.
-use Prim.Native.Nat.{ℕ, zero, suc, _+_, _-_, _≤_, _<_, min, max}
+use Prim.Native.Nat.{ℕ, _+_, _-_, _≤_, _<_}
 use mathlib.Core.Path.{_≡_}
 use mathlib.Core.Logic.{_⊎_, inl, inr}
 use native.Mathlib.Omega.{arith}
 use Rattle.layout.specs.declared.rect.Span.{Span}
 use Rattle.layout.specs.declared.rect.Rect.{Rect}
-use Rattle.layout.specs.Apart.{swapped, Within, Inside, Pieces, all-swapped, Holds, Clear, before, after, Exact, Finished, Apart}
+use Rattle.layout.specs.Apart.{swapped, Inside, Pieces, all-swapped, Holds, Clear, Exact, Finished, Apart}
 use Rattle.layout.specs.Apart.Apart.{done, cut, next}
 
 -- U moved by t and then shortened by h is V

@@ -1,8 +1,8 @@
 -- One stage at a time: give each piece a key (its segment, its strip, its own number) so that a piece of a lower key ends before one of a
 -- higher key begins. Then the stage leaves parts of one key each.
-use Prim.Native.Nat.{ℕ, zero, suc, _+_, _-_, _≤_, _<_, min, max}
+use Prim.Native.Nat.{ℕ, zero, suc, _+_, _≤_, _<_}
 use mathlib.Core.Path.{_≡_, ap}
-use mathlib.Core.Logic.{_⊎_, inl, inr}
+use mathlib.Core.Logic.{inl, inr}
 use native.Mathlib.Decide.{decLe, decLt}
 use native.Mathlib.Omega.{arith}
 use Rattle.layout.specs.declared.rect.Span.{Span}

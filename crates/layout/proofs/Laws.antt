@@ -1,16 +1,16 @@
--- The laws of coming apart: the axes exchanged, more stages, a smaller saw width, a part of a part with some of its pieces, a border around all
--- pieces, pieces that carry their saw cut with them, and an easier test.
-use Prim.Native.Nat.{ℕ, zero, suc, _+_, _-_, _*_, _≤_, _<_, min, max}
+-- The laws of coming apart: the axes exchanged, more stages, a smaller saw width, a part of a part with some of its pieces, pieces moved inside a
+-- larger plate, pieces that carry their saw cut with them, and an easier test.
+use Prim.Native.Nat.{ℕ, zero, suc, _+_, _-_, _*_, _≤_, _<_}
 use mathlib.Core.Path.{_≡_, refl, subst}
 use mathlib.Core.Logic.{_⊎_, inl, inr}
 use native.Mathlib.Nat.{add-zero, zero-add, suc-add}
 use native.Mathlib.Omega.{arith}
 use Rattle.layout.specs.declared.rect.Span.{Span}
 use Rattle.layout.specs.declared.rect.Rect.{Rect}
-use Rattle.layout.specs.Apart.{swapped, Within, Inside, Pieces, all-swapped, Holds, Clear, before, after, Finished, Apart, ComesApart, plate, Sized}
+use Rattle.layout.specs.Apart.{swapped, Within, Inside, Pieces, all-swapped, Holds, Clear, before, after, Apart, ComesApart, plate, Sized}
 use Rattle.layout.specs.Apart.Apart.{done, cut, next}
 use Rattle.layout.specs.Changes.{shift, moved, enlarged}
-use Rattle.layout.proofs.Carrying.{Moved, Has, Carries, Fair, carry}
+use Rattle.layout.proofs.Carrying.{Carries, Fair, carry}
 
 pub swap-sized : {ps : Pieces} → Sized ps → Sized (all-swapped ps)
 swap-sized z i lt = (z i lt .1, z i lt .0)
@@ -62,6 +62,9 @@ pub record SomeOf (ps qs : Pieces) : Type 0 where
 pub all-of : {ps : Pieces} → SomeOf ps ps
 all-of = record { pick = λ i. i; known = λ i lt. lt; apart = λ i j _ _ e. e; stays = λ i lt. (omega arith, omega arith) }
 
+same-place : (Q P : Rect) → Q ≡ P → Inside Q P × Inside P Q
+same-place Q P e = subst (λ (R : Rect). Inside Q R × Inside R Q) e (omega arith, omega arith)
+
 carries-some : {ps qs : Pieces} → SomeOf ps qs → Carries 0 0 ps qs
 carries-some some = record {
   pick = some .pick;
@@ -97,6 +100,20 @@ module _ {test : Rect → Rect → Type 0} (fair : Fair test) where
   -- a part S of the part R, with all pieces that lie in it
   pub restrict : {g : ℕ} {ps : Pieces} {s : ℕ} {R S : Rect} → Inside S R → Apart test g ps s R → Apart test g ps s S
   restrict h a = some-pieces all-of h a
+
+  -- pieces in the same places
+  pub same-places : (g s : ℕ) (R : Rect) (ps qs : Pieces) → qs .count ≡ ps .count → ((i : ℕ) → i < qs .count → qs .place i ≡ ps .place i) → ComesApart test g s R ps → ComesApart test g s R qs
+  same-places g s R ps qs many same (inside, either) = (λ i lt. let e = same-place (qs .place i) (ps .place i) (same i lt) in let h = inside i (omega arith) in omega arith, go either)
+    where
+      stay : SomeOf ps qs
+      stay = record { pick = λ i. i; known = λ i lt. omega arith; apart = λ i j _ _ e. e; stays = λ i lt. same-place (qs .place i) (ps .place i) (same i lt) }
+
+      stay-swapped : SomeOf (all-swapped ps) (all-swapped qs)
+      stay-swapped = record { pick = λ i. i; known = λ i lt. omega arith; apart = λ i j _ _ e. e; stays = λ i lt. let e = same-place (qs .place i) (ps .place i) (same i lt) in ((e .0 .1, e .0 .0), (e .1 .1, e .1 .0)) }
+
+      go : Apart test g ps s R ⊎ Apart test g (all-swapped ps) s (swapped R) → Apart test g qs s R ⊎ Apart test g (all-swapped qs) s (swapped R)
+      go (inl a) = inl (some-pieces stay (omega arith) a)
+      go (inr a) = inr (some-pieces stay-swapped (omega arith) a)
 
   -- A smaller saw width of a part. One cut of width g at p becomes two: the second takes what the first leaves of its width.
   pub thinner : {g : ℕ} {ps : Pieces} {s : ℕ} {R : Rect} (k : ℕ) → k ≤ g → Sized ps → Apart test g ps s R → Apart test k ps s R

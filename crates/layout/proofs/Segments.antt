@@ -1,11 +1,11 @@
 -- Segments of strips of equal height come apart in three stages: between the segments, between the strips of a segment, and between the pieces
 -- of a strip.
-use Prim.Native.Nat.{ℕ, zero, suc, _+_, _-_, _≤_, _<_}
-use mathlib.Core.Path.{_≡_, refl, sym, ap}
+use Prim.Native.Nat.{ℕ, _+_, _≤_, _<_}
+use mathlib.Core.Path.{_≡_}
 use native.Mathlib.Omega.{arith}
 use Rattle.layout.specs.declared.rect.Span.{Span}
 use Rattle.layout.specs.declared.rect.Rect.{Rect}
-use Rattle.layout.specs.Apart.{swapped, Within, Inside, Pieces, all-swapped, Holds, Exact, Finished, Apart, Sized}
+use Rattle.layout.specs.Apart.{Within, Pieces, all-swapped, Exact, Finished, Apart, Sized}
 use Rattle.layout.specs.Apart.Apart.{done}
 use Rattle.layout.specs.Changes.{Solid}
 use Rattle.layout.proofs.Laws.{swap-sized}

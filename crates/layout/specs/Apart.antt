@@ -41,7 +41,7 @@ Clear g ps R p = (i : ℕ) → Holds ps R i → (ps .place i .along .to + g ≤ 
 abbrev pub before : ℕ → ℕ → Rect → Rect
 before g p R = record { along = record { from = R .along .from; to = min (R .along .to) (p - g) }; across = R .across }
 
--- the part of R after the cut begins at p, as far as R has it
+-- the part of R after the cut begins at p, as far as R has it; a cut that misses R leaves it as it was, and the other part is none
 abbrev pub after : ℕ → Rect → Rect
 after p R = record { along = record { from = max (R .along .from) p; to = R .along .to }; across = R .across }
 

@@ -1,5 +1,4 @@
 -- The pieces that a list of rows means.
-use Prim.Native.Nat.{ℕ}
 use mathlib.Core.List.{List}
 use lib.ListN.{length as size, getD}
 use Rattle.layout.specs.declared.panel.Panel.{Panel}

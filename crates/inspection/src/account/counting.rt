@@ -1,26 +1,23 @@
 // The calls of an account.
-ghost use Prim.Native.Nat.{ℕ, _+_, _*_, _<_, _≤_};
+ghost use Prim.Native.Nat.{_+_, _*_, _<_, _≤_};
 ghost use mathlib.Core.Path.{_≡_};
 ghost use mathlib.Core.List.{_++_};
-ghost use lib.ListN.{length as size, getD, drop};
+ghost use lib.ListN.{length as size, drop};
 ghost use Rattle.std.specs.Orderings.{Decides, When};
 ghost use Rattle.std.specs.Options.{Cases as BySome};
 ghost use Rattle.std.specs.Vec.{made};
 ghost use Rattle.layout.specs.Limits.{Between, Outside};
 ghost use Rattle.layout.specs.Refusals.{Answered};
-ghost use Rattle.inspection.specs.Accounts.{EachNumber, SomeNumber, EachRow, SomeRow, LawfulBook, LawfulRows, Left, Met, Places, SomePast, Summed, Tallied, account-cause, count-cause, opened, rows-cause};
+ghost use Rattle.inspection.specs.Accounts.{EachNumber, SomeNumber, EachRow, SomeRow, LawfulBook, LawfulRows, Left, Met, Full, SomePast, Summed, Tallied, account-cause, count-cause, opened, rows-cause};
 ghost use Rattle.inspection.specs.Books.{book};
 use super::Account;
+use crate::limits::GREATEST_NUMBER;
+use crate::limits::MOST_KINDS;
+use crate::limits::MOST_ROWS;
 use layout::refusal::Refusal;
 use layout::row::Row;
 
-// The greatest ordered number, and the most runs that are counted at once.
-const GREATEST_NUMBER: u16 = 10_000;
-
-const MOST_ROWS: usize = 4_096;
-
-const MOST_KINDS: usize = 32;
-
+// Whether every number is 1 to 10,000.
 fn numbers_are_lawful(numbers: &[u16]) -> bool
     ensures { λ r. ⌜ When r (EachNumber (Between 1 10000) (now (numbers .entry))) (SomeNumber (Outside 1 10000) (now (numbers .entry))) ⌝ }
 {
@@ -32,6 +29,7 @@ fn numbers_are_lawful(numbers: &[u16]) -> bool
     true
 }
 
+// Copies the numbers to the front of a table that has room for them.
 fn copy_numbers(from: &[u16], to: &mut [u16])
     requires { ⌜ size (now from) ≤ size (now to) ⌝ }
     ensures { λ _. ⌜ now (to .exit) ≡ now (from .entry) ++ drop (size (now (from .entry))) (now (to .entry)) ⌝ }
@@ -90,12 +88,12 @@ fn is_kept(row: Row) -> bool
 }
 
 // How many rows of each kind are kept.
-fn tally(rows: &[Row]) -> [u16; 32]
+fn tally(rows: &[Row]) -> [u16; MOST_KINDS]
     requires known { ⌜ EachRow (λ row. row .kind < 32) (now rows) ⌝ }
     requires few { ⌜ size (now rows) ≤ 4096 ⌝ }
     ensures { λ r. ⌜ Tallied (now (rows .entry)) r ⌝ }
 {
-    let mut table = [0u16; 32];
+    let mut table = [0; MOST_KINDS];
     for row in rows {
         if is_kept(*row) {
             table[row.kind as usize] += 1;
@@ -111,12 +109,12 @@ impl Account {
         ensures account { λ r. ⌜ made r (λ a. book a ≡ opened (now (ordered .entry))) ⌝ }
     {
         check_order(ordered)?;
-        let mut table = [0; 32];
+        let mut table = [0; MOST_KINDS];
         copy_numbers(ordered, &mut table);
         Ok(Account {
             kinds: ordered.len() as u8,
             ordered: table,
-            counted: [0; 32],
+            counted: [0; MOST_KINDS],
         })
     }
 
@@ -135,11 +133,11 @@ impl Account {
     }
 
     // The counts after so many runs of the kept rows, unless some kind would pass its ordered number.
-    fn counts_after(&self, tallies: &[u16], runs: u16) -> Option<[u16; 32]>
-        requires { ⌜ Places (now tallies) ⌝ }
+    fn counts_after(&self, tallies: &[u16], runs: u16) -> Option<[u16; MOST_KINDS]>
+        requires { ⌜ Full (now tallies) ⌝ }
         ensures { λ r. ⌜ BySome r (SomePast (book (now (self .entry))) (now (tallies .entry)) runs) (λ sums. Summed (book (now (self .entry))) (now (tallies .entry)) runs (size (book (now (self .entry)) .ordered)) sums) ⌝ }
     {
-        let mut sums = [0; 32];
+        let mut sums = [0; MOST_KINDS];
         let counted = self.counted();
         for (k, number) in self.ordered().iter().enumerate() {
             let sum = counted[k] as u32 + runs as u32 * tallies[k] as u32;

@@ -1,5 +1,3 @@
-use borrow.Author.Needs.{needs}
-use native.Mathlib.Omega.{arith}
 use Rattle.inspection.specs.Directions.{placed}
 use Rattle.inspection.proofs.Scan.{group-grows}
 use Rattle.inspection.proofs.groups.group.Needs as need

@@ -2,9 +2,9 @@ use mathlib.Core.Path.{_≡_, refl, sym, subst}
 use Rattle.std.proofs.shelf.Ways.{not-from-decides}
 use borrow.Author.Needs.{needs}
 use Rattle.layout.specs.declared.rect.Rect.{Rect}
-use Rattle.layout.specs.Apart.{Inside, Exact}
+use Rattle.layout.specs.Apart.{Inside}
 use Rattle.inspection.specs.Directions.{placed}
-use Rattle.inspection.specs.Groups.{LowestSo, Lower, Lowest, first}
+use Rattle.inspection.specs.Groups.{Lower}
 use Rattle.inspection.proofs.Scan.{lowest-skip, lowest-take}
 use Rattle.inspection.proofs.groups.lowest.Needs as need
 use Rattle.inspection.proofs.groups.lowest.Needs.{then-inside, else-inside}

@@ -1,6 +1,6 @@
 use Prim.Native.Nat.{_+_, _≤_, _<_, _-_, _^_}
 use mathlib.Core.Logic.{_⊎_}
-use mathlib.Core.Path.{_≡_, sym, subst}
+use mathlib.Core.Path.{sym, subst}
 use lib.ListN.{length as size, take}
 use native.Mathlib.Omega.{arith}
 use Rattle.std.specs.Orderings.{Decides}

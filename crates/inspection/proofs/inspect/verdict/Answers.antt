@@ -1,7 +1,7 @@
 use mathlib.Core.Logic.{inl, inr}
 use mathlib.Core.Path.{refl}
 use Rattle.inspection.specs.Verdicts.{plate-of}
-use Rattle.inspection.proofs.Judging.{found, none-faulty}
+use Rattle.inspection.proofs.Judging.{found}
 use Rattle.inspection.proofs.inspect.verdict.Needs as need
 
 pub returns-in-Some : need.returns-in-Some

@@ -13,7 +13,7 @@ use Rattle.inspection.proofs.account.Account.count.Needs as need
 pub ghost-self : need.ghost-self
 ghost-self c =
     let a = c .args .self .now in
-    (a .few, ((a .places .0, c .in-Some .ensures tt .places), (a .numbers, (sums-bounded a _ _ _ (c .in-Some .ensures tt), tt))))
+    (a .few, ((a .full .0, c .in-Some .ensures tt .full), (a .numbers, (sums-bounded a _ _ _ (c .in-Some .ensures tt), tt))))
 
 pub returns : need.returns
 returns c =
