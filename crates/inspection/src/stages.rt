@@ -1,4 +1,5 @@
-// Whether a part comes apart in the stages that are left.
+// Whether a part comes apart in the stages that are left. Each stage makes every cut that it can: this loses nothing. Each group of a stage has a
+// piece of its own, and finding it looks at all places a few times, so the cost grows with the square of the rows.
 ghost use Prim.Native.Nat.{_+_, _<_, _^_};
 ghost use Rattle.std.specs.Orderings.{Decides};
 ghost use mathlib.Core.Logic.{_⊎_};

@@ -2,10 +2,11 @@
 -- of a strip.
 use Prim.Native.Nat.{ℕ, _+_, _≤_, _<_}
 use mathlib.Core.Path.{_≡_}
+use mathlib.Core.Logic.{inl}
 use native.Mathlib.Omega.{arith}
 use Rattle.layout.specs.declared.rect.Span.{Span}
 use Rattle.layout.specs.declared.rect.Rect.{Rect}
-use Rattle.layout.specs.Apart.{Within, Pieces, all-swapped, Exact, Finished, Apart, Sized}
+use Rattle.layout.specs.Apart.{Within, Pieces, all-swapped, Exact, Finished, Apart, ComesApart, Inside, Sized}
 use Rattle.layout.specs.Apart.Apart.{done}
 use Rattle.layout.specs.Changes.{Solid}
 use Rattle.layout.proofs.Laws.{swap-sized}
@@ -37,3 +38,7 @@ module _ (g : ℕ) (ps : Pieces) (segment strip : ℕ → ℕ) (z : Sized ps) (s
       (λ U inU solU one-segment. stage g (all-swapped ps) (swap-sized z) strip (record { along = R .across; across = U }) (λ i j hi hj. st .level i j (hi .0) (hj .0) (one-segment i j (omega arith) (omega arith)))
       (λ V inV solV one-strip. stage g ps z (λ i. i) (record { along = U; across = V }) (λ i j hi hj lt. st .order i j lt (hj .0) (one-segment i j (omega arith) (omega arith)) (one-strip i j (omega arith) (omega arith)))
       (λ Z inZ solZ one-piece. done (finish U V Z (R .across) inV inZ one-segment solV one-strip solZ one-piece))))
+
+  -- a plate with its pieces in segments
+  pub segments-come-apart : (R : Rect) → ((i : ℕ) → i < ps .count → Inside (ps .place i) R) → ComesApart Exact g 3 R ps
+  segments-come-apart R inside = (inside, inl (segments-apart R))

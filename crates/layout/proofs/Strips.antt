@@ -1,10 +1,11 @@
 -- Pieces in strips come apart in three stages: between the strips, between the pieces of a strip, and around each piece.
 use Prim.Native.Nat.{ℕ, _+_, _≤_, _<_}
 use mathlib.Core.Path.{_≡_}
+use mathlib.Core.Logic.{inr}
 use native.Mathlib.Omega.{arith}
 use Rattle.layout.specs.declared.rect.Span.{Span}
 use Rattle.layout.specs.declared.rect.Rect.{Rect}
-use Rattle.layout.specs.Apart.{swapped, Within, Pieces, all-swapped, Exact, Finished, Apart, Sized}
+use Rattle.layout.specs.Apart.{swapped, Within, Pieces, all-swapped, Exact, Finished, Apart, ComesApart, Inside, Sized}
 use Rattle.layout.specs.Apart.Apart.{done}
 use Rattle.layout.specs.Changes.{Solid}
 use Rattle.layout.proofs.Laws.{swap-sized}
@@ -33,3 +34,7 @@ module _ (g : ℕ) (ps : Pieces) (strip : ℕ → ℕ) (z : Sized ps) (st : Stri
       (λ U inU solU one-strip. stage g ps z (λ i. i) (record { along = R .along; across = U }) (λ i j hi hj lt. st .order i j lt (hj .0) (one-strip i j (omega arith) (omega arith)))
       (λ V inV solV one-piece. stage g (all-swapped ps) (swap-sized z) (λ i. 0) (record { along = U; across = V }) (λ i j hi hj lt. omega arith)
       (λ Z inZ solZ _. done (finish U V Z inZ solV one-piece solZ))))
+
+  -- a plate with its pieces in strips
+  pub strips-come-apart : (R : Rect) → ((i : ℕ) → i < ps .count → Inside (ps .place i) R) → ComesApart Exact g 3 R ps
+  strips-come-apart R inside = (inside, inr (strips-apart R))
