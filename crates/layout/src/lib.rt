@@ -1,5 +1,6 @@
-// The vocabulary of the cutting office: panels, kinds, rows, refusals and tasks.
+// The vocabulary of the cutting office: panels, kinds, rows, refusals, tasks and rectangles.
 pub mod panel;
+pub mod rect;
 pub mod refusal;
 pub mod row;
 pub mod task;

@@ -1,0 +1,104 @@
+-- Accounts as books.
+use Prim.Native.Nat.{ℕ, zero, suc, _+_, _*_, _≤_, _<_}
+use mathlib.Core.Path.{_≡_, refl, sym, ap, subst, _∙_}
+use mathlib.Core.Logic.{inl, inr}
+use mathlib.Core.List.{List, [], _∷_, _++_}
+use lib.ListN.{length as size, getD, take, drop, replicate, getD-replicate}
+use native.Mathlib.Omega.{arith}
+use Rattle.std.proofs.shelf.Lists.{take-at, length-append, length-drop, length-take-le, getD-take}
+use Rattle.layout.specs.declared.row.Row.{Row}
+use Rattle.layout.specs.declared.refusal.Refusal.{Refusal}
+use Rattle.layout.specs.Refusals.{Accepted, RefusedBy, code-of}
+use Rattle.inspection.specs.declared.account.Account.{Account}
+use Rattle.inspection.specs.Accounts.{Book, LawfulBook, NonePast, Counted, Summed, Tallied, rows-cause, count-cause, opened, kept}
+use Rattle.inspection.specs.Books.{book}
+
+-- every account keeps to the limits
+pub lawful-book : (a : Account) → LawfulBook (book a)
+lawful-book a =
+    let few = a .few in
+    let long = length-take-le (a .kinds) (a .ordered) (omega (arith, a .full)) in
+    record {
+      few = omega (arith, long);
+      many = omega (arith, long, length-take-le (a .kinds) (a .counted) (omega (arith, a .full)));
+      numbers = a .numbers;
+      bounded = λ k lt. omega (arith, getD-take (a .kinds) (a .counted) k 0 (omega (arith, long)), getD-take (a .kinds) (a .ordered) k 0 (omega (arith, long)), a .bounded k (omega (arith, long)));
+    }
+
+-- a table after numbers were copied to its front: its front is the numbers, and it is as long as before
+pub copied-front : (numbers old table : List ℕ) → table ≡ numbers ++ drop (size numbers) old → take (size numbers) table ≡ numbers
+copied-front numbers old table e = ap (take (size numbers)) e ∙ take-at numbers (drop (size numbers) old) (size numbers) refl
+
+pub copied-long : (numbers old table : List ℕ) → size numbers ≤ size old → table ≡ numbers ++ drop (size numbers) old → size table ≡ size old
+copied-long numbers old table le e = ap size e ∙ omega (arith, length-append numbers (drop (size numbers) old), length-drop (size numbers) old)
+
+-- a table of zeros
+take-zeros : (n m : ℕ) → n ≤ m → take n (replicate m 0) ≡ replicate {A = ℕ} n 0
+take-zeros zero m le = refl
+take-zeros (suc n) zero le = absurd (omega arith)
+take-zeros (suc n) (suc m) le = ap (λ (l : List ℕ). 0 ∷ l) (take-zeros n m (omega arith))
+
+pub nothing-past : (n : ℕ) (ordered : List ℕ) → n ≤ 32 → NonePast n ordered (replicate 32 0)
+nothing-past n ordered le k lt = omega (arith, getD-replicate {A = ℕ} 32 k 0 0 (omega arith))
+
+pub opened-book : (ordered table : List ℕ) → size ordered ≤ 32 → take (size ordered) table ≡ ordered → _≡_ {A = Book} (record { ordered = take (size ordered) table; counted = take (size ordered) (replicate 32 0) }) (opened ordered)
+opened-book ordered table few front =
+    ap (λ (l : List ℕ). record { ordered = l; counted = take (size ordered) (replicate 32 0) }) front
+    ∙ ap (λ (l : List ℕ). record { ordered = ordered; counted = l }) (take-zeros (size ordered) 32 few)
+
+-- a refusal of the rows is one of the count
+pub rows-refused : (b : Book) (rows : List Row) (runs : ℕ) (e : Refusal) → RefusedBy (rows-cause (size (b .ordered)) rows runs) e → RefusedBy (count-cause b rows runs) e
+rows-refused b rows runs e h = record { holds = inl (h .holds); smallest = λ c lt o. smaller c lt o }
+  where
+    early : rows-cause (size (b .ordered)) rows runs (code-of e) → code-of e ≤ 5
+    early (inl o) = omega (arith, o .0)
+    early (inr (inl o)) = omega (arith, o .0)
+    early (inr (inr o)) = omega (arith, o .0)
+
+    smaller : (c : ℕ) → c < code-of e → count-cause b rows runs c → ⊥
+    smaller c lt (inl o) = h .smallest c lt o
+    smaller c lt (inr o) = omega (arith, o .0, early (h .holds))
+
+-- The sums of all kinds become the counts.
+module _ (b : Book) (rows : List Row) (tallies : List ℕ) (runs : ℕ) (sums : List ℕ) (lawful : LawfulBook b) (t : Tallied rows tallies) (s : Summed b tallies runs (size (b .ordered)) sums) where
+  -- none of the causes
+  pub none-pass : (k : ℕ) → k < size (b .ordered) → getD (b .ordered) k 0 < getD (b .counted) k 0 + runs * kept k rows → ⊥
+  none-pass k lt past =
+      let few = lawful .few in
+      omega (arith, subst (λ (n : ℕ). getD (b .ordered) k 0 < getD (b .counted) k 0 + runs * n) (sym (t .each k (omega arith))) past, s .each k lt, s .bounded k lt)
+
+  pub accepted : Accepted (rows-cause (size (b .ordered)) rows runs) → Accepted (count-cause b rows runs)
+  accepted none c (inl o) = none c o
+  accepted none c (inr (e, (k, lt, past))) = none-pass k lt past
+
+  pub counts : Counted b rows runs (record { ordered = b .ordered; counted = take (size (b .ordered)) sums })
+  counts =
+      let few = lawful .few in
+      record {
+        ordered = refl;
+        many = omega (arith, lawful .many, length-take-le (size (b .ordered)) sums (omega (arith, s .full)));
+        each = λ k lt. getD-take (size (b .ordered)) sums k 0 lt ∙ s .each k lt ∙ ap (λ (n : ℕ). getD (b .counted) k 0 + runs * n) (t .each k (omega arith));
+      }
+
+-- the same for an account and its places
+pub as-many : (a : Account) → size (book a .ordered) ≡ a .kinds
+as-many a = let few = a .few in length-take-le (a .kinds) (a .ordered) (omega (arith, a .full))
+
+pub sums-bounded : (a : Account) (tallies : List ℕ) (runs : ℕ) (sums : List ℕ) → Summed (book a) tallies runs (size (book a .ordered)) sums → NonePast (a .kinds) (a .ordered) sums
+sums-bounded a tallies runs sums s k lt = omega (arith, s .bounded k (omega (arith, as-many a)), getD-take (a .kinds) (a .ordered) k 0 lt)
+
+pub counts-kept : (a : Account) (rows : List Row) (tallies : List ℕ) (runs : ℕ) (sums : List ℕ) → Tallied rows tallies → Summed (book a) tallies runs (size (book a .ordered)) sums → Counted (book a) rows runs (record { ordered = take (a .kinds) (a .ordered); counted = take (a .kinds) sums })
+counts-kept a rows tallies runs sums t s =
+    subst (λ (n : ℕ). Counted (book a) rows runs (record { ordered = take (a .kinds) (a .ordered); counted = take n sums })) (as-many a) (counts (book a) rows tallies runs sums (lawful-book a) t s)
+
+pub sums-lawful : (a : Account) (tallies : List ℕ) (runs : ℕ) (sums : List ℕ) → Summed (book a) tallies runs (size (book a .ordered)) sums → LawfulBook (record { ordered = take (a .kinds) (a .ordered); counted = take (a .kinds) sums })
+sums-lawful a tallies runs sums s =
+    lawful-book (record {
+      kinds = a .kinds;
+      ordered = a .ordered;
+      counted = sums;
+      few = a .few;
+      full = (a .full .0, s .full);
+      numbers = a .numbers;
+      bounded = sums-bounded a tallies runs sums s;
+    })

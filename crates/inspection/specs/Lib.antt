@@ -1,0 +1,7 @@
+pub mod Directions
+pub mod Groups
+pub mod Verdicts
+pub mod Soundness
+pub mod Accounts
+pub mod Books
+pub mod Pinwheel

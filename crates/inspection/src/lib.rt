@@ -1,0 +1,11 @@
+// Inspection of plates, whether a list of rows is lawful and comes apart, and accounts of what was counted.
+pub mod account;
+mod groups;
+pub mod inspect;
+pub mod limits;
+pub mod pinwheel;
+mod places;
+mod stages;
+#[cfg(test)]
+mod tests;
+pub mod verdict;
