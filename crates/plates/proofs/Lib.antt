@@ -1,3 +1,4 @@
 mod LineParts
 mod Fronts
 mod Whole
+mod Outcomes
