@@ -64,13 +64,38 @@ fn lawful_texts_are_restated(rt: LibcRuntime) -> Result<(), Fail> {
     )
 }
 
-// A lawful text of 65,536 bytes, and the same with one byte more, which no text may have.
+// Bytes that no text has: 0, 9 and 255.
+#[test]
+fn strange_bytes(rt: LibcRuntime) -> Result<(), Fail> {
+    reports(rt.alloc(), &[0], "bad 7 line 1 column 1\n", false)?;
+    reports(
+        rt.alloc(),
+        &[b'j', b'o', b'b', 9],
+        "bad 7 line 1 column 4\n",
+        false,
+    )?;
+    reports(
+        rt.alloc(),
+        &[b'j', b'o', b'b', b' ', 255],
+        "bad 7 line 1 column 5\n",
+        false,
+    )
+}
+
+// `text` and then as many item lines.
+fn with_items(text: &mut Vec<u8>, items: usize) -> Result<(), Fail> {
+    for _ in 0..items {
+        text.extend_from_slice(b"item 100 50 n 6 4\n")?;
+    }
+    Ok(())
+}
+
+// A lawful text of 65,536 bytes, and the same with one byte more, which no text may have; one that ends early at 65,536 bytes; and a longer one with
+// an earlier fault.
 #[test]
 fn the_greatest_length(rt: LibcRuntime) -> Result<(), Fail> {
     let mut text = b"job 7 200 150 0 0\n".to_vec(rt.alloc())?;
-    for _ in 0..3638 {
-        text.extend_from_slice(b"item 100 50 n 6 4\n")?;
-    }
+    with_items(&mut text, 3638)?;
     text.extend_from_slice(b"item 1111111 1111111 n 1111111 11\n")?;
     check_eq(text.len(), 65_536)?;
     reports(
@@ -84,6 +109,24 @@ fn the_greatest_length(rt: LibcRuntime) -> Result<(), Fail> {
         rt.alloc(),
         text.as_slice(),
         "bad 7 line 3641 column 1\n",
+        false,
+    )?;
+    let mut early = b"job 7 200 150 0 0\n".to_vec(rt.alloc())?;
+    with_items(&mut early, 3639)?;
+    early.extend_from_slice(b"item 1111111 111")?;
+    check_eq(early.len(), 65_536)?;
+    reports(
+        rt.alloc(),
+        early.as_slice(),
+        "bad 7 line 3641 column 17\n",
+        false,
+    )?;
+    let mut faulty = b"job 7 200 150 0 0\nitem x\n".to_vec(rt.alloc())?;
+    with_items(&mut faulty, 4000)?;
+    reports(
+        rt.alloc(),
+        faulty.as_slice(),
+        "bad 7 line 2 column 6\n",
         false,
     )
 }

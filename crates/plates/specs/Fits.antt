@@ -14,10 +14,11 @@ abbrev pub flag : Bool → ℕ
 flag true = 1
 flag false = 0
 
--- a number in a field of 16 bits, and of 8: one that is too large is the largest, which no limit allows
+-- a number in a field of 16 bits: one that is too large is the largest, which no limit allows
 abbrev pub wide-field : ℕ → ℕ
 wide-field n = min n 65535
 
+-- and in a field of 8 bits
 abbrev pub narrow-field : ℕ → ℕ
 narrow-field n = min n 255
 

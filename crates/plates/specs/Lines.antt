@@ -23,17 +23,19 @@ abbrev pub row-line : RowEntry → List ℕ
 row-line r =
     line (decimal (r .kind)) ((letter Turn (r .turned) ∷ []) ∷ decimal (r .segment) ∷ decimal (r .strip) ∷ (letter Spare (r .spare) ∷ []) ∷ decimal (r .x) ∷ decimal (r .y) ∷ [])
 
--- each number has at most seven digits
+-- each number of the first line has at most seven digits
 pub record ShortSetting (s : Setting) : Type 0 where
   pub length : SevenDigits (s .length)
   pub width : SevenDigits (s .width)
   pub saw : SevenDigits (s .saw)
   pub stages : SevenDigits (s .stages)
 
+-- and each number of a kind line
 pub record ShortKind (k : KindEntry) : Type 0 where
   pub length : SevenDigits (k .length)
   pub width : SevenDigits (k .width)
 
+-- and each number of a row line
 pub record ShortRow (r : RowEntry) : Type 0 where
   pub kind : SevenDigits (r .kind)
   pub segment : SevenDigits (r .segment)
@@ -41,12 +43,14 @@ pub record ShortRow (r : RowEntry) : Type 0 where
   pub x : SevenDigits (r .x)
   pub y : SevenDigits (r .y)
 
--- the texts that are a first line, a kind line and a row line
+-- the texts that are a first line
 abbrev pub PlateLine : List ℕ → Type 0
 PlateLine t = (s : Setting) × ShortSetting s × (t ≡ plate-line s)
 
+-- the texts that are a kind line
 abbrev pub KindLine : List ℕ → Type 0
 KindLine t = (k : KindEntry) × ShortKind k × (t ≡ kind-line k)
 
+-- the texts that are a row line
 abbrev pub RowLine : List ℕ → Type 0
 RowLine t = (r : RowEntry) × ShortRow r × (t ≡ row-line r)

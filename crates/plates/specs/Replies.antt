@@ -8,12 +8,13 @@ use Rattle.std.specs.declared.alloc.Global.{Global}
 use Rattle.std.specs.declared.vec.Vec.{Vec}
 use Rattle.std.specs.shelf.Lists.{All}
 use Rattle.text.specs.Texts.{Stops}
+use Rattle.plates.specs.declared.plate.Setting.{Setting}
 use Rattle.plates.specs.declared.plate.KindEntry.{KindEntry}
 use Rattle.plates.specs.declared.plate.RowEntry.{RowEntry}
 use Rattle.plates.specs.declared.plate.Plate.{Plate}
 use Rattle.plates.specs.declared.unread.Unread.{Unread}
 use Rattle.plates.specs.declared.unread.Unread.the-variants.{Line, Memory}
-use Rattle.plates.specs.Lines.{KindLine, RowLine, ShortKind, ShortRow}
+use Rattle.plates.specs.Lines.{plate-line, KindLine, RowLine, ShortSetting, ShortKind, ShortRow}
 use Rattle.plates.specs.Texts.{kind-lines, row-lines, ReadAs, BadLine}
 
 -- lines can be counted on to the end of the text
@@ -23,6 +24,10 @@ Room before t = before + length t + 1 < 2 ^ 64
 -- t begins as a kind line does
 abbrev pub Kindly : List ℕ → Type 0
 Kindly t = (more : List ℕ) × (t ≡ 107 ∷ more)
+
+-- t is a first line and then `rest`
+abbrev pub SettingRead : List ℕ → Setting → List ℕ → Type 0
+SettingRead t s rest = ShortSetting s × (t ≡ plate-line s ++ rest)
 
 -- t is these kind lines and then `rest`, which is no more of them
 pub record KindsRead (t : List ℕ) (ks : Vec KindEntry Global) (rest : List ℕ) : Type 0 where
@@ -41,6 +46,7 @@ pub record BadKind (t : List ℕ) (before a : ℕ) : Type 0 where
   pub stops : Stops KindLine rest left
   pub line : a ≡ before + length kinds + 1
 
+-- why reading kinds stopped
 abbrev pub KindsStopped : Unread → List ℕ → ℕ → Type 0
 KindsStopped (Line a) t before = BadKind t before a
 KindsStopped Memory t before = Unit {0}
@@ -61,6 +67,7 @@ pub record BadRow (t : List ℕ) (before a : ℕ) : Type 0 where
   pub stops : Stops RowLine rest left
   pub line : a ≡ before + length rows + 1
 
+-- why reading rows stopped
 abbrev pub RowsStopped : Unread → List ℕ → ℕ → Type 0
 RowsStopped (Line a) t before = BadRow t before a
 RowsStopped Memory t before = Unit {0}

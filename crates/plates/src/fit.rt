@@ -1,4 +1,5 @@
-// The numbers of a plate text as the fields of an inspected plate hold them. One that is too large for its field counts as the field's largest, which is beyond every limit.
+// The numbers of a plate text as the fields of an inspected plate hold them. One that is too large for its field counts as the field's largest, which
+// is beyond every limit.
 ghost use Prim.Native.Nat.{min};
 ghost use mathlib.Core.Path.{_≡_};
 ghost use mathlib.Core.List.{map};
@@ -12,6 +13,7 @@ use layout::row::Row;
 use std::alloc::AllocError;
 use std::alloc::Global;
 
+// A number in 16 bits.
 pub(crate) fn wide(number: u32) -> u16
     ensures { λ r. ⌜ r ≡ min number 65535 ⌝ }
 {
@@ -22,12 +24,14 @@ pub(crate) fn wide(number: u32) -> u16
     }
 }
 
+// A number in 8 bits.
 pub(crate) fn narrow(number: u32) -> u8
     ensures { λ r. ⌜ r ≡ min number 255 ⌝ }
 {
     if number < 255 { number as u8 } else { 255 }
 }
 
+// 1 for yes.
 fn flag_of(is: bool) -> u8
     ensures { λ r. ⌜ r ≡ flag is ⌝ }
 {

@@ -14,6 +14,7 @@ use text::fields::choice;
 use text::fields::number;
 use text::fields::word;
 
+// The first line.
 pub(crate) fn plate_line<'a>(text: &'a [u8]) -> Result<(Setting, &'a [u8]), Fault<'a>>
     ensures { λ r. ⌜ Cases r (λ x. ShortSetting (x .0) × (now (text .entry) ≡ plate-line (x .0) ++ now (x .1))) (λ f. Stops PlateLine (now (text .entry)) (now (f .left))) ⌝ }
 {
@@ -31,6 +32,7 @@ pub(crate) fn plate_line<'a>(text: &'a [u8]) -> Result<(Setting, &'a [u8]), Faul
     Ok((setting, rest))
 }
 
+// A kind line.
 pub(crate) fn kind_line<'a>(text: &'a [u8]) -> Result<(KindEntry, &'a [u8]), Fault<'a>>
     ensures { λ r. ⌜ Cases r (λ x. ShortKind (x .0) × (now (text .entry) ≡ kind-line (x .0) ++ now (x .1))) (λ f. Stops KindLine (now (text .entry)) (now (f .left))) ⌝ }
 {
@@ -46,6 +48,7 @@ pub(crate) fn kind_line<'a>(text: &'a [u8]) -> Result<(KindEntry, &'a [u8]), Fau
     Ok((kind, rest))
 }
 
+// A row line.
 pub(crate) fn row_line<'a>(text: &'a [u8]) -> Result<(RowEntry, &'a [u8]), Fault<'a>>
     ensures { λ r. ⌜ Cases r (λ x. ShortRow (x .0) × (now (text .entry) ≡ row-line (x .0) ++ now (x .1))) (λ f. Stops RowLine (now (text .entry)) (now (f .left))) ⌝ }
 {

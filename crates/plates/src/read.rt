@@ -1,13 +1,14 @@
 // Reads a plate text.
 ghost use Rattle.std.specs.Orderings.{When};
 ghost use Rattle.std.specs.Results.{Cases};
-ghost use Rattle.plates.specs.Replies.{KindsRead, KindsStopped, RowsRead, RowsStopped, PlateRead, PlateUnread, Room, Kindly};
+ghost use Rattle.plates.specs.Replies.{SettingRead, KindsRead, KindsStopped, RowsRead, RowsStopped, PlateRead, PlateUnread, Room, Kindly};
 use crate::lines::kind_line;
 use crate::lines::plate_line;
 use crate::lines::row_line;
 use crate::plate::KindEntry;
 use crate::plate::Plate;
 use crate::plate::RowEntry;
+use crate::plate::Setting;
 use crate::unread::Unread;
 use crate::unread::UnreadFromRefused;
 use std::alloc::Global;
@@ -64,13 +65,23 @@ fn read_rows(heap: Global, text: &[u8], before: usize) -> Result<Vec<RowEntry>, 
     Ok(rows)
 }
 
+// The first line.
+fn first_line<'a>(text: &'a [u8]) -> Result<(Setting, &'a [u8]), Unread>
+    ensures { λ r. ⌜ Cases r (λ x. SettingRead (now (text .entry)) (x .0) (now (x .1))) (λ u. PlateUnread u (now (text .entry))) ⌝ }
+{
+    match plate_line(text) {
+        Ok((setting, rest)) => Ok((setting, rest)),
+        Err(_) => Err(Unread::Line(1)),
+    }
+}
+
 // The one plate that a text says, or its first line that is not as it must be.
 pub fn read_plate(heap: Global, text: &[u8]) -> Result<Plate, Unread>
     ensures { λ r. ⌜ Cases r (λ p. PlateRead p (now (text .entry))) (λ u. PlateUnread u (now (text .entry))) ⌝ }
 {
-    let (setting, rest) = match plate_line(text) {
+    let (setting, rest) = match first_line(text) {
         Ok((setting, rest)) => (setting, rest),
-        Err(_) => return Err(Unread::Line(1)),
+        Err(unread) => return Err(unread),
     };
     let (kinds, rest) = read_kinds(heap, rest, 1)?;
     let rows = read_rows(heap, rest, kinds.len() + 1)?;

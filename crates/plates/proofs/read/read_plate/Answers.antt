@@ -7,11 +7,8 @@ use Rattle.std.specs.Of.Vec.{vec-items}
 use Rattle.std.proofs.shelf.Results.{err-from-errBy}
 use Rattle.plates.specs.Lines.{plate-line}
 use Rattle.plates.specs.Texts.{kind-lines}
-use Rattle.plates.proofs.Whole.{bad-first, kinds-unread, rows-unread, read-as}
+use Rattle.plates.proofs.Whole.{kinds-unread, rows-unread, read-as}
 use Rattle.plates.proofs.read.read_plate.Needs as need
-
-pub returns-in-Err : need.returns-in-Err
-returns-in-Err c = bad-first (c .args .text .now) _ (c .in-Err .ensures tt)
 
 pub returns-in-Break-kinds : need.returns-in-Break-kinds
 returns-in-Break-kinds c =
