@@ -2,6 +2,4 @@ pub mod Directions
 pub mod Groups
 pub mod Verdicts
 pub mod Soundness
-pub mod Accounts
-pub mod Books
 pub mod Pinwheel

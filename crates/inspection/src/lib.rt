@@ -1,5 +1,4 @@
-// Inspection of plates, whether a list of rows is lawful and comes apart, and accounts of what was counted.
-pub mod account;
+// Inspection of plates: whether a list of rows is lawful and comes apart.
 mod groups;
 pub mod inspect;
 pub mod limits;

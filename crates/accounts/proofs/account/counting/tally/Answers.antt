@@ -6,10 +6,10 @@ use Rattle.std.proofs.shelf.Lists.{length-take-le, take-all}
 use Rattle.std.proofs.shelf.Ways.{not-from-decides}
 use Rattle.layout.specs.declared.row.Row.{Row}
 use Rattle.layout.specs.Pieces.{blank}
-use Rattle.inspection.specs.Accounts.{Tallied}
-use Rattle.inspection.proofs.Tallies.{kept-bound, tallied-none, tallied-keep, tallied-spare}
-use Rattle.inspection.proofs.account.counting.tally.Needs as need
-use Rattle.inspection.proofs.account.counting.tally.Needs.{then-is-kept, else-is-kept}
+use Rattle.accounts.specs.Accounts.{Tallied}
+use Rattle.accounts.proofs.Tallies.{kept-bound, tallied-none, tallied-keep, tallied-spare}
+use Rattle.accounts.proofs.account.counting.tally.Needs as need
+use Rattle.accounts.proofs.account.counting.tally.Needs.{then-is-kept, else-is-kept}
 
 pub loop-row-holds : need.loop-row-holds
 loop-row-holds c = tallied-none

@@ -5,10 +5,10 @@ use lib.ListN.{length as size}
 use borrow.Author.Needs.{needs}
 use Rattle.std.proofs.shelf.Results.{err-from-errBy}
 use Rattle.layout.specs.Refusals.{Accepted, RefusedBy}
-use Rattle.inspection.specs.Accounts.{rows-cause}
-use Rattle.inspection.specs.Books.{book}
-use Rattle.inspection.proofs.Books.{lawful-book, accepted, sums-bounded, sums-lawful, counts-kept, rows-refused}
-use Rattle.inspection.proofs.account.Account.count.Needs as need
+use Rattle.accounts.specs.Accounts.{rows-cause}
+use Rattle.accounts.specs.Books.{book}
+use Rattle.accounts.proofs.Books.{lawful-book, accepted, sums-bounded, sums-lawful, counts-kept, rows-refused}
+use Rattle.accounts.proofs.account.Account.count.Needs as need
 
 pub ghost-self : need.ghost-self
 ghost-self c =

@@ -12,7 +12,7 @@ use native.Mathlib.Numerals.{add-one}
 use native.Mathlib.Omega.{arith}
 use Rattle.layout.specs.declared.row.Row.{Row}
 use Rattle.layout.specs.Pieces.{blank}
-use Rattle.inspection.specs.Accounts.{Tallied, kept, kept-by}
+use Rattle.accounts.specs.Accounts.{Tallied, kept, kept-by}
 
 one-at-most : (a b : Bool) → cond a (cond b 1 0) 0 ≤ 1
 one-at-most true true = omega arith

@@ -1,7 +1,7 @@
 -- An Account as a book.
 use lib.ListN.{take}
-use Rattle.inspection.specs.declared.account.Account.{Account}
-use Rattle.inspection.specs.Accounts.{Book}
+use Rattle.accounts.specs.declared.account.Account.{Account}
+use Rattle.accounts.specs.Accounts.{Book}
 
 -- what an account says: its kinds' ordered numbers and counts
 abbrev pub book : Account → Book

@@ -1,8 +1,8 @@
 use Prim.Native.Nat.{ℕ, _<_}
 use mathlib.Core.Path.{_≡_}
 use lib.ListN.{getD}
-use Rattle.inspection.specs.Books.{book}
-use Rattle.inspection.proofs.account.Account.met.Given as given
+use Rattle.accounts.specs.Books.{book}
+use Rattle.accounts.proofs.account.Account.met.Given as given
 
 -- the kinds so far have their ordered numbers
 abbrev pub Inv-loop-k : given.InvT-loop-k

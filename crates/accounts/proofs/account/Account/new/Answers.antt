@@ -1,8 +1,8 @@
 use mathlib.Core.Path.{refl, sym, subst}
 use Rattle.layout.specs.Limits.{Between}
-use Rattle.inspection.specs.Accounts.{EachNumber}
-use Rattle.inspection.proofs.Books.{copied-front, copied-long, nothing-past, opened-book}
-use Rattle.inspection.proofs.account.Account.new.Needs as need
+use Rattle.accounts.specs.Accounts.{EachNumber}
+use Rattle.accounts.proofs.Books.{copied-front, copied-long, nothing-past, opened-book}
+use Rattle.accounts.proofs.account.Account.new.Needs as need
 
 pub ghost-result : need.ghost-result
 ghost-result c =

@@ -1,7 +1,7 @@
 use Prim.Native.Nat.{ℕ, _<_}
 use lib.ListN.{getD}
 use Rattle.layout.specs.Limits.{Between}
-use Rattle.inspection.proofs.account.counting.numbers_are_lawful.Given as given
+use Rattle.accounts.proofs.account.counting.numbers_are_lawful.Given as given
 
 -- the numbers so far are lawful
 abbrev pub Inv-loop-n : given.InvT-loop-n

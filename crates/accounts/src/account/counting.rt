@@ -8,14 +8,18 @@ ghost use Rattle.std.specs.Options.{Cases as BySome};
 ghost use Rattle.std.specs.Vec.{made};
 ghost use Rattle.layout.specs.Limits.{Between, Outside};
 ghost use Rattle.layout.specs.Refusals.{Answered};
-ghost use Rattle.inspection.specs.Accounts.{EachNumber, SomeNumber, EachRow, SomeRow, LawfulBook, LawfulRows, Left, Met, Full, SomePast, Summed, Tallied, account-cause, count-cause, opened, rows-cause};
-ghost use Rattle.inspection.specs.Books.{book};
+ghost use Rattle.accounts.specs.Accounts.{EachNumber, SomeNumber, EachRow, SomeRow, LawfulBook, LawfulRows, Left, Met, Full, SomePast, Summed, Tallied, account-cause, count-cause, opened, rows-cause};
+ghost use Rattle.accounts.specs.Books.{book};
 use super::Account;
-use crate::limits::GREATEST_NUMBER;
-use crate::limits::MOST_KINDS;
-use crate::limits::MOST_ROWS;
+use layout::panel::MOST_KINDS;
 use layout::refusal::Refusal;
 use layout::row::Row;
+
+// The greatest ordered number, and the most runs that are counted at once; the least is 1.
+const GREATEST_NUMBER: u16 = 10_000;
+
+// The most rows that are counted at once.
+const MOST_ROWS: usize = 4_096;
 
 // Whether every number is 1 to 10,000.
 fn numbers_are_lawful(numbers: &[u16]) -> bool

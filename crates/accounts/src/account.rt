@@ -2,8 +2,8 @@
 ghost use Prim.Native.Nat.{_≤_};
 ghost use lib.ListN.{take};
 ghost use Rattle.layout.specs.Limits.{Between};
-ghost use Rattle.inspection.specs.Accounts.{EachNumber, Full, NonePast};
-use crate::limits::MOST_KINDS;
+ghost use Rattle.accounts.specs.Accounts.{EachNumber, Full, NonePast};
+use layout::panel::MOST_KINDS;
 
 mod counting;
 

@@ -9,9 +9,9 @@ use Rattle.std.proofs.shelf.Lists.{take-at, length-append, length-drop, length-
 use Rattle.layout.specs.declared.row.Row.{Row}
 use Rattle.layout.specs.declared.refusal.Refusal.{Refusal}
 use Rattle.layout.specs.Refusals.{Accepted, RefusedBy, code-of}
-use Rattle.inspection.specs.declared.account.Account.{Account}
-use Rattle.inspection.specs.Accounts.{Book, LawfulBook, NonePast, Counted, Summed, Tallied, rows-cause, count-cause, opened, kept}
-use Rattle.inspection.specs.Books.{book}
+use Rattle.accounts.specs.declared.account.Account.{Account}
+use Rattle.accounts.specs.Accounts.{Book, LawfulBook, NonePast, Counted, Summed, Tallied, rows-cause, count-cause, opened, kept}
+use Rattle.accounts.specs.Books.{book}
 
 -- every account keeps to the limits
 pub lawful-book : (a : Account) → LawfulBook (book a)
