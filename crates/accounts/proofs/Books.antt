@@ -10,7 +10,7 @@ use Rattle.layout.specs.declared.row.Row.{Row}
 use Rattle.layout.specs.declared.refusal.Refusal.{Refusal}
 use Rattle.layout.specs.Refusals.{Accepted, RefusedBy, code-of}
 use Rattle.accounts.specs.declared.account.Account.{Account}
-use Rattle.accounts.specs.Accounts.{Book, LawfulBook, NonePast, Counted, Summed, Tallied, rows-cause, count-cause, opened, kept}
+use Rattle.accounts.specs.Accounts.{Book, LawfulBook, NonePast, Counted, Counts, Summed, Tallied, rows-cause, count-cause, opened, kept}
 use Rattle.accounts.specs.Books.{book}
 
 -- every account keeps to the limits
@@ -59,7 +59,7 @@ rows-refused b rows runs e h = record { holds = inl (h .holds); smallest = λ c 
     smaller c lt (inl o) = h .smallest c lt o
     smaller c lt (inr o) = omega (arith, o .0, early (h .holds))
 
--- The sums of all kinds become the counts.
+-- the sums of all kinds are the counts
 module _ (b : Book) (rows : List Row) (tallies : List ℕ) (runs : ℕ) (sums : List ℕ) (lawful : LawfulBook b) (t : Tallied rows tallies) (s : Summed b tallies runs (size (b .ordered)) sums) where
   -- none of the causes
   pub none-pass : (k : ℕ) → k < size (b .ordered) → getD (b .ordered) k 0 < getD (b .counted) k 0 + runs * kept k rows → ⊥
@@ -71,34 +71,40 @@ module _ (b : Book) (rows : List Row) (tallies : List ℕ) (runs : ℕ) (sums : 
   accepted none c (inl o) = none c o
   accepted none c (inr (e, (k, lt, past))) = none-pass k lt past
 
-  pub counts : Counted b rows runs (record { ordered = b .ordered; counted = take (size (b .ordered)) sums })
+  pub counts : Counts b rows runs sums
   counts =
       let few = lawful .few in
       record {
-        ordered = refl;
-        many = omega (arith, lawful .many, length-take-le (size (b .ordered)) sums (omega (arith, s .full)));
-        each = λ k lt. getD-take (size (b .ordered)) sums k 0 lt ∙ s .each k lt ∙ ap (λ (n : ℕ). getD (b .counted) k 0 + runs * n) (t .each k (omega arith));
+        full = s .full;
+        each = λ k lt. s .each k lt ∙ ap (λ (n : ℕ). getD (b .counted) k 0 + runs * n) (t .each k (omega arith));
+        bounded = s .bounded;
       }
 
--- the same for an account and its places
+-- the counts written into an account
 pub as-many : (a : Account) → size (book a .ordered) ≡ a .kinds
 as-many a = let few = a .few in length-take-le (a .kinds) (a .ordered) (omega (arith, a .full))
 
-pub sums-bounded : (a : Account) (tallies : List ℕ) (runs : ℕ) (sums : List ℕ) → Summed (book a) tallies runs (size (book a .ordered)) sums → NonePast (a .kinds) (a .ordered) sums
-sums-bounded a tallies runs sums s k lt = omega (arith, s .bounded k (omega (arith, as-many a)), getD-take (a .kinds) (a .ordered) k 0 lt)
+module _ (a : Account) (rows : List Row) (runs : ℕ) (sums : List ℕ) (c : Counts (book a) rows runs sums) where
+  pub counts-bounded : NonePast (a .kinds) (a .ordered) sums
+  counts-bounded k lt = omega (arith, c .bounded k (omega (arith, as-many a)), getD-take (a .kinds) (a .ordered) k 0 lt)
 
-pub counts-kept : (a : Account) (rows : List Row) (tallies : List ℕ) (runs : ℕ) (sums : List ℕ) → Tallied rows tallies → Summed (book a) tallies runs (size (book a .ordered)) sums → Counted (book a) rows runs (record { ordered = take (a .kinds) (a .ordered); counted = take (a .kinds) sums })
-counts-kept a rows tallies runs sums t s =
-    subst (λ (n : ℕ). Counted (book a) rows runs (record { ordered = take (a .kinds) (a .ordered); counted = take n sums })) (as-many a) (counts (book a) rows tallies runs sums (lawful-book a) t s)
+  pub counts-kept : Counted (book a) rows runs (record { ordered = take (a .kinds) (a .ordered); counted = take (a .kinds) sums })
+  counts-kept =
+      let few = a .few in
+      let many = as-many a in
+      record {
+        ordered = refl;
+        many = omega (arith, lawful-book a .many, many, length-take-le (a .kinds) sums (omega (arith, c .full)));
+        each = λ k lt. getD-take (a .kinds) sums k 0 (omega (arith, many, lt)) ∙ c .each k lt;
+      }
 
-pub sums-lawful : (a : Account) (tallies : List ℕ) (runs : ℕ) (sums : List ℕ) → Summed (book a) tallies runs (size (book a .ordered)) sums → LawfulBook (record { ordered = take (a .kinds) (a .ordered); counted = take (a .kinds) sums })
-sums-lawful a tallies runs sums s =
-    lawful-book (record {
-      kinds = a .kinds;
-      ordered = a .ordered;
-      counted = sums;
-      few = a .few;
-      full = (a .full .0, s .full);
-      numbers = a .numbers;
-      bounded = sums-bounded a tallies runs sums s;
-    })
+  pub counts-lawful : LawfulBook (record { ordered = take (a .kinds) (a .ordered); counted = take (a .kinds) sums })
+  counts-lawful = lawful-book (record {
+    kinds = a .kinds;
+    ordered = a .ordered;
+    counted = sums;
+    few = a .few;
+    full = (a .full .0, c .full);
+    numbers = a .numbers;
+    bounded = counts-bounded;
+  })

@@ -53,6 +53,11 @@ pub record LawfulBook (b : Book) : Type 0 where
 abbrev pub account-cause : List ℕ → ℕ → Type 0
 account-cause ordered c = ((c ≡ 3) × SomeNumber (Outside 1 10000) ordered) ⊎ ((c ≡ 11) × (32 < size ordered))
 
+-- ordered numbers of which none is a cause
+pub record LawfulOrder (ordered : List ℕ) : Type 0 where
+  pub numbers : EachNumber (Between 1 10000) ordered
+  pub few : size ordered ≤ 32
+
 -- the account of these ordered numbers, with nothing counted
 abbrev pub opened : List ℕ → Book
 opened ordered = record { ordered = ordered; counted = replicate (size ordered) 0 }
@@ -118,6 +123,12 @@ pub record Summed (b : Book) (table : List ℕ) (runs n : ℕ) (sums : List ℕ)
   pub full : Full sums
   pub each : (k : ℕ) → k < n → getD sums k 0 ≡ sum-at b table runs k
   pub bounded : NonePast n (b .ordered) sums
+
+-- the table has the count of each kind after so many runs of these rows, none past its ordered number
+pub record Counts (b : Book) (rows : List Row) (runs : ℕ) (counts : List ℕ) : Type 0 where
+  pub full : Full counts
+  pub each : (k : ℕ) → k < size (b .ordered) → getD counts k 0 ≡ count-after b rows runs k
+  pub bounded : NonePast (size (b .ordered)) (b .ordered) counts
 
 -- every kind has its ordered number
 abbrev pub Met : Book → Type 0

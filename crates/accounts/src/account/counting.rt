@@ -8,7 +8,7 @@ ghost use Rattle.std.specs.Options.{Cases as BySome};
 ghost use Rattle.std.specs.Vec.{made};
 ghost use Rattle.layout.specs.Limits.{Between, Outside};
 ghost use Rattle.layout.specs.Refusals.{Answered};
-ghost use Rattle.accounts.specs.Accounts.{EachNumber, SomeNumber, EachRow, SomeRow, LawfulBook, LawfulRows, Left, Met, Full, SomePast, Summed, Tallied, account-cause, count-cause, opened, rows-cause};
+ghost use Rattle.accounts.specs.Accounts.{EachNumber, SomeNumber, EachRow, SomeRow, LawfulBook, LawfulOrder, LawfulRows, Counts, Left, Met, Full, SomePast, Summed, Tallied, account-cause, count-cause, opened, rows-cause};
 ghost use Rattle.accounts.specs.Books.{book};
 use super::Account;
 use layout::panel::MOST_KINDS;
@@ -44,7 +44,7 @@ fn copy_numbers(from: &[u16], to: &mut [u16])
 // Whether an account may be made of these numbers. All of them are looked at before a refusal is chosen.
 fn check_order(ordered: &[u16]) -> Result<(), Refusal>
     ensures answer { λ r. ⌜ Answered (account-cause (now (ordered .entry))) r ⌝ }
-    ensures lawful { λ r. ⌜ made r (λ _. EachNumber (Between 1 10000) (now (ordered .entry)) × (size (now (ordered .entry)) ≤ 32)) ⌝ }
+    ensures lawful { λ r. ⌜ made r (λ _. LawfulOrder (now (ordered .entry))) ⌝ }
 {
     if !numbers_are_lawful(ordered) {
         return Err(Refusal::Quantity);
@@ -107,19 +107,29 @@ fn tally(rows: &[Row]) -> [u16; MOST_KINDS]
 }
 
 impl Account {
-    // An account of the ordered numbers, with nothing counted.
+    // An account of lawful numbers, with nothing counted.
+    fn opened(ordered: &[u16]) -> Account
+        requires { ⌜ LawfulOrder (now ordered) ⌝ }
+        ensures { λ a. ⌜ book a ≡ opened (now (ordered .entry)) ⌝ }
+    {
+        let mut table = [0; MOST_KINDS];
+        copy_numbers(ordered, &mut table);
+        Account {
+            kinds: ordered.len() as u8,
+            ordered: table,
+            counted: [0; MOST_KINDS],
+        }
+    }
+
+    // An account of the ordered numbers, with nothing counted, or the smallest cause against it.
     pub fn new(ordered: &[u16]) -> Result<Account, Refusal>
         ensures answer { λ r. ⌜ Answered (account-cause (now (ordered .entry))) r ⌝ }
         ensures account { λ r. ⌜ made r (λ a. book a ≡ opened (now (ordered .entry))) ⌝ }
     {
-        check_order(ordered)?;
-        let mut table = [0; MOST_KINDS];
-        copy_numbers(ordered, &mut table);
-        Ok(Account {
-            kinds: ordered.len() as u8,
-            ordered: table,
-            counted: [0; MOST_KINDS],
-        })
+        match check_order(ordered) {
+            Err(refusal) => Err(refusal),
+            Ok(()) => Ok(Account::opened(ordered)),
+        }
     }
 
     // The ordered number of each kind.
@@ -153,19 +163,33 @@ impl Account {
         Some(sums)
     }
 
-    // Counts the kept rows of so many plates. Where it is refused, the account stays as it was, and either way it keeps to its limits.
-    pub fn count(&mut self, rows: &[Row], runs: u16) -> Result<(), Refusal>
+    // The counts after so many runs of the kept rows of a plate, or the smallest cause against it.
+    fn counts_of(&self, rows: &[Row], runs: u16) -> Result<[u16; MOST_KINDS], Refusal>
         ensures answer { λ r. ⌜ Answered (count-cause (book (now (self .entry))) (now (rows .entry)) runs) r ⌝ }
-        ensures left { λ r. ⌜ Left r (book (now (self .entry))) (now (rows .entry)) runs (book (now (self .exit))) ⌝ }
-        ensures limits { λ _. ⌜ LawfulBook (book (now (self .exit))) ⌝ }
+        ensures limits { λ _. ⌜ LawfulBook (book (now (self .entry))) ⌝ }
+        ensures counts { λ r. ⌜ made r (λ counts. Counts (book (now (self .entry))) (now (rows .entry)) runs counts) ⌝ }
     {
         check_rows(rows, self.ordered().len(), runs)?;
         let tallies = tally(rows);
         let Some(sums) = self.counts_after(&tallies, runs) else {
             return Err(Refusal::PastOrder);
         };
-        self.counted = sums;
-        Ok(())
+        Ok(sums)
+    }
+
+    // Counts the kept rows of so many plates. Where it is refused, the account stays as it was, and either way it keeps to its limits.
+    pub fn count(&mut self, rows: &[Row], runs: u16) -> Result<(), Refusal>
+        ensures answer { λ r. ⌜ Answered (count-cause (book (now (self .entry))) (now (rows .entry)) runs) r ⌝ }
+        ensures left { λ r. ⌜ Left r (book (now (self .entry))) (now (rows .entry)) runs (book (now (self .exit))) ⌝ }
+        ensures limits { λ _. ⌜ LawfulBook (book (now (self .exit))) ⌝ }
+    {
+        match self.counts_of(rows, runs) {
+            Err(cause) => Err(cause),
+            Ok(counts) => {
+                self.counted = counts;
+                Ok(())
+            }
+        }
     }
 
     // Whether every kind has its ordered number.

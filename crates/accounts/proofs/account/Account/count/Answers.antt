@@ -1,41 +1,18 @@
-use Prim.Native.Nat.{ℕ}
-use mathlib.Core.List.{List}
-use mathlib.Core.Path.{refl, subst}
-use lib.ListN.{length as size}
-use borrow.Author.Needs.{needs}
-use Rattle.std.proofs.shelf.Results.{err-from-errBy}
-use Rattle.layout.specs.Refusals.{Accepted, RefusedBy}
-use Rattle.accounts.specs.Accounts.{rows-cause}
-use Rattle.accounts.specs.Books.{book}
-use Rattle.accounts.proofs.Books.{lawful-book, accepted, sums-bounded, sums-lawful, counts-kept, rows-refused}
+use Rattle.accounts.proofs.Books.{counts-bounded, counts-kept, counts-lawful}
 use Rattle.accounts.proofs.account.Account.count.Needs as need
 
 pub ghost-self : need.ghost-self
 ghost-self c =
     let a = c .args .self .now in
-    (a .few, ((a .full .0, c .in-Some .ensures tt .full), (a .numbers, (sums-bounded a _ _ _ (c .in-Some .ensures tt), tt))))
+    let counts = c .in-Ok .ensures tt .counts in
+    (a .few, ((a .full .0, counts .full), (a .numbers, (counts-bounded a (c .args .rows .now) (c .args .runs) (c .in-Ok .counts) counts, tt))))
 
-pub returns : need.returns
-returns c =
+pub returns-in-Ok : need.returns-in-Ok
+returns-in-Ok c =
     let a = c .args .self .now in
-    let rows = c .args .rows .now in
+    let counts = c .in-Ok .ensures tt .counts in
     record {
-      answer = accepted (book a) rows (c .tally-tallies .result) (c .args .runs) (c .in-Some .sums) (lawful-book a) (c .tally-tallies .ensures) (c .in-Some .ensures tt) (subst (λ (ordered : List ℕ). Accepted (rows-cause (size ordered) rows (c .args .runs))) (c .ordered .ensures) (c .in-Continue-check-rows .ensures tt .answer));
-      left = counts-kept a rows (c .tally-tallies .result) (c .args .runs) (c .in-Some .sums) (c .tally-tallies .ensures) (c .in-Some .ensures tt);
-      limits = sums-lawful a (c .tally-tallies .result) (c .args .runs) (c .in-Some .sums) (c .in-Some .ensures tt);
+      answer = c .in-Ok .ensures tt .answer;
+      left = counts-kept a (c .args .rows .now) (c .args .runs) (c .in-Ok .counts) counts;
+      limits = counts-lawful a (c .args .rows .now) (c .args .runs) (c .in-Ok .counts) counts;
     }
-
-pub returns-in-Break-check-rows : need.returns-in-Break-check-rows
-returns-in-Break-check-rows c =
-    let a = c .args .self .now in
-    let rows = c .args .rows .now in
-    let e = c .in-Break-check-rows .field-0 .0 in
-    let p = err-from-errBy (c .from-residual .result) (c .from-residual .ensures .1) in
-    rw (p .1, p .2) (record {
-      answer = rows-refused (book a) rows (c .args .runs) e (subst (λ (ordered : List ℕ). RefusedBy (rows-cause (size ordered) rows (c .args .runs)) e) (c .ordered .ensures) (c .in-Break-check-rows .ensures tt .answer));
-      left = refl;
-      limits = lawful-book a;
-    })
-
-pub returns-in-rest : need.returns-in-rest
-returns-in-rest c = record { answer = search needs; left = refl; limits = lawful-book (c .args .self .now) }
