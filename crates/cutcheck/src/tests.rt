@@ -123,3 +123,25 @@ fn the_pinwheel_stays_whole(rt: LibcRuntime) -> Result<(), Fail> {
     }
     Ok(())
 }
+
+// `rows` squares of 50 by 50, side by side on a plate of 3,000 by 3,000 and then again from the corner, as a text at `stages` stages.
+fn squares(heap: Global, rows: usize, stages: usize) -> Result<String, Fail> {
+    let mut text = format!(heap, "plate 3000 3000 0 {stages}\nkind 50 50 n\n")?;
+    for i in 0..rows {
+        let x = i % 60 * 50;
+        let y = i / 60 % 60 * 50;
+        let line = format!(heap, "0 n 0 0 k {x} {y}\n")?;
+        text.push_str(line.as_str())?;
+    }
+    Ok(text)
+}
+
+#[test]
+fn many_squares(rt: LibcRuntime) -> Result<(), Fail> {
+    let grid = squares(rt.alloc(), 3600, 2)?;
+    reports(rt.alloc(), grid.as_str(), "verdict 0 row 0\n", true)?;
+    let overlapping = squares(rt.alloc(), 4096, 7)?;
+    reports(rt.alloc(), overlapping.as_str(), "verdict 22 row 0\n", true)?;
+    let too_many = squares(rt.alloc(), 4097, 7)?;
+    reports(rt.alloc(), too_many.as_str(), "refused 5\n", false)
+}

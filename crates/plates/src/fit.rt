@@ -17,18 +17,14 @@ use std::alloc::Global;
 pub(crate) fn wide(number: u32) -> u16
     ensures { λ r. ⌜ r ≡ min number 65535 ⌝ }
 {
-    if number < 65_535 {
-        number as u16
-    } else {
-        65_535
-    }
+    number.min(65_535) as u16
 }
 
 // A number in 8 bits.
 pub(crate) fn narrow(number: u32) -> u8
     ensures { λ r. ⌜ r ≡ min number 255 ⌝ }
 {
-    if number < 255 { number as u8 } else { 255 }
+    number.min(255) as u8
 }
 
 // 1 for yes.
