@@ -1,4 +1,6 @@
 // One chooser for pieces in a strip, strips on a plate and strips in a segment: of the sequences of candidates that fit a capacity, the first of greatest worth.
+#![tactic(auto)]
+
 ghost use Rattle.std.specs.Prelude.{◌≡◌, length, MatchOption};
 ghost use Rattle.choosing.specs.Calls.{Choosable, GreatestWorth, Selected, Tabled, Workable};
 

@@ -1,5 +1,7 @@
 // Reads an order text from standard input, takes every item as wanted, and prints the pattern that each named rule names for the bare plate: for
 // comparing the rules, and for measuring them.
+#![tactic(auto)]
+
 use engines::three_staged::ThreeStaged;
 use engines::two_staged::TwoStaged;
 use layout::panel::{Kind, MOST_KINDS, NO_KIND, Panel};

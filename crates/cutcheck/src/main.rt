@@ -1,4 +1,6 @@
 // Reads a plate text from standard input and prints the verdict on it: status 0 where there is one, else 1.
+#![tactic(auto)]
+
 use plates::check::check_plate;
 use std::io;
 use std::io::Read;

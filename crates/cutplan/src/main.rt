@@ -1,4 +1,6 @@
 // Reads an order text from standard input and prints the report on it: status 0 where the text is accepted, else 1.
+#![tactic(auto)]
+
 use orders::judge::judge;
 use std::io;
 use std::io::Read;

@@ -1,4 +1,6 @@
 // The two named cutting rules as code: each writes the pattern that it names, in lent memory alone.
+#![tactic(auto)]
+
 mod dividing;
 mod laying;
 pub mod meaning;

@@ -1,4 +1,6 @@
 // Inspection of plates: whether a list of rows is lawful and comes apart.
+#![tactic(auto)]
+
 mod groups;
 pub mod inspect;
 pub mod limits;

@@ -1,4 +1,6 @@
 // The vocabulary of the cutting office: panels, kinds, rows, refusals, tasks and rectangles.
+#![tactic(auto)]
+
 pub mod change;
 pub mod panel;
 pub mod rect;

@@ -1,4 +1,6 @@
 // The two named sets of cutting patterns, and the pattern that each names. The functions here answer nothing: each stands for the theorem in its contract.
+#![tactic(auto)]
+
 ghost use Rattle.rules.specs.Rules.{RuleLaws};
 ghost use Rattle.patterns.specs.Examples.{WorkedCases};
 ghost use Rattle.patterns.specs.Named.{two_staged_pattern, three_staged_pattern};

@@ -1,4 +1,6 @@
 // Cutting rules: what a rule means, and the layers that stand above any rule.
+#![tactic(auto)]
+
 pub mod best;
 pub mod better;
 pub mod rule;

@@ -21,8 +21,8 @@ pick-requires g c =
 pub bounds-order-count : goal.bounds-order-count
 bounds-order-count g c = omega (arith, step_room (step g c.args.candidates.now c.loop-k.left c.in-Some.k c.requires.choosable.workable.fair c.in-Some.ensures) (record { size = 0; worth = g.W.Worth.scale.nothing }), c.loop-k.invariant.1, c.requires.choosable.workable.limit, c.requires.choosable.enough, c.loop-k.auto.order)
 
-pub offset-bounds-candidates-k : goal.offset-bounds-candidates-k
-offset-bounds-candidates-k g c = omega (arith, step_known (step g c.args.candidates.now c.loop-k.left c.in-Some.k c.requires.choosable.workable.fair c.in-Some.ensures))
+pub offset_bounds-candidates-k : goal.offset_bounds-candidates-k
+offset_bounds-candidates-k g c = omega (arith, step_known (step g c.args.candidates.now c.loop-k.left c.in-Some.k c.requires.choosable.workable.fair c.in-Some.ensures))
 
 pub bounds-candidates-k : goal.bounds-candidates-k
 bounds-candidates-k g c = step_known (step g c.args.candidates.now c.loop-k.left c.in-Some.k c.requires.choosable.workable.fair c.in-Some.ensures)
@@ -30,8 +30,8 @@ bounds-candidates-k g c = step_known (step g c.args.candidates.now c.loop-k.left
 pub bounds-candidates-k-in-Some : goal.bounds-candidates-k-in-Some
 bounds-candidates-k-in-Some g c = step_known (step g c.args.candidates.now c.loop-k.left c.in-Some.k c.requires.choosable.workable.fair c.in-Some.ensures)
 
-pub overflow-sub-left : goal.overflow-sub-left
-overflow-sub-left g c = (step_room (step g c.args.candidates.now c.loop-k.left c.in-Some.k c.requires.choosable.workable.fair c.in-Some.ensures) c.index-candidates-k.result).1
+pub overflow_sub-left : goal.overflow_sub-left
+overflow_sub-left g c = (step_room (step g c.args.candidates.now c.loop-k.left c.in-Some.k c.requires.choosable.workable.fair c.in-Some.ensures) c.index-candidates-k.result).1
 
 pub loop-k-smaller : goal.loop-k-smaller
 loop-k-smaller g c = omega (arith, step_room (step g c.args.candidates.now c.loop-k.left c.in-Some.k c.requires.choosable.workable.fair c.in-Some.ensures) c.index-candidates-k.result)
@@ -60,7 +60,7 @@ returns g c =
     let capacity = c.args.capacity in
     let sound = fair_sound m.limits 64 cands c.requires.choosable.workable.fair in
     let front = take c.loop-k.count c.loop-k.order in
-    let written = all_walked front (first s cands c.loop-k.left).order (first s cands capacity).order c.in-default.ensures c.loop-k.invariant.0 in
+    let written = all_walked front (first s cands c.loop-k.left).order (first s cands capacity).order c.in_default.ensures c.loop-k.invariant.0 in
     record {
       computed = written;
       earliest = subst (First s cands capacity) (sym written) (first_is_first m.laws cands sound capacity);

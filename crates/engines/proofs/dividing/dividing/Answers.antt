@@ -9,4 +9,4 @@ loop-c-preserved c =
     let l = c.args.length in
     let at = c.loop-c.c in
     let next : suc at ≡ at + 1 = omega arith in
-    c.better-of-best.ensures ∙ ap (λ (d : Division). better_division d (divided_of v l at)) c.loop-c.invariant ∙ ap (division_below v l) next
+    c.better_of-best.ensures ∙ ap (λ (d : Division). better_division d (divided_of v l at)) c.loop-c.invariant ∙ ap (division_below v l) next

@@ -8,16 +8,16 @@ use Rattle.engines.specs.Writing.{first_corner, corner_above, strip_rows}
 use Rattle.engines.proofs.Rows.{length_strip, known_more, across_more, strip_length, strip_more, strip_last}
 use Rattle.engines.proofs.laying.lay_strips.Goals as goal
 
-pub offset-bounds-numbers-k : goal.offset-bounds-numbers-k
-offset-bounds-numbers-k c =
+pub offset_bounds-numbers-k : goal.offset_bounds-numbers-k
+offset_bounds-numbers-k c =
     let known = known_more c.args.segment c.args.numbers.now c.args.order.now c.loop-k.k-index c.loop-k-test.true c.loop-k.invariant.3 in
     search rules
 
 pub bounds-numbers-k : goal.bounds-numbers-k
 bounds-numbers-k c = (known_more c.args.segment c.args.numbers.now c.args.order.now c.loop-k.k-index c.loop-k-test.true c.loop-k.invariant.3).0
 
-pub lay-strip-end-requires : goal.lay-strip-end-requires
-lay-strip-end-requires c =
+pub lay_strip-end-requires : goal.lay_strip-end-requires
+lay_strip-end-requires c =
     let s = c.args.segment in
     let numbers = c.args.numbers.now in
     let order = c.args.order.now in
@@ -54,9 +54,9 @@ loop-k-preserved c =
       ap (λ (z : Corner). z.x) next ∙ c.loop-k.invariant.1,
       omega (arith, c.loop-k.invariant.2, across_more s numbers order i within, ap (λ (z : Corner). z.y) next),
       (known_more s numbers order i within c.loop-k.invariant.3).1,
-      omega (arith, c.loop-k.invariant.4, c.lay-strip-end.ensures.count, length_strip k.segment k.strip k.y k.x (strip_in s numbers q).pieces, strip_length s numbers order i within k, ap length same),
-      ap (λ t. take c.lay-strip-end.result c.lay-strip-end.new.rows ++ t) same
-          ∙ strip_more s numbers order i within k c.loop-k.end c.lay-strip-end.result c.loop-k.rows c.lay-strip-end.new.rows (take c.args.start c.args.rows.now ++ strip_rows (first_corner s) s numbers order) c.loop-k.invariant.5 c.lay-strip-end.ensures.front,
+      omega (arith, c.loop-k.invariant.4, c.lay_strip-end.ensures.count, length_strip k.segment k.strip k.y k.x (strip_in s numbers q).pieces, strip_length s numbers order i within k, ap length same),
+      ap (λ t. take c.lay_strip-end.result c.lay_strip-end.new.rows ++ t) same
+          ∙ strip_more s numbers order i within k c.loop-k.end c.lay_strip-end.result c.loop-k.rows c.lay_strip-end.new.rows (take c.args.start c.args.rows.now ++ strip_rows (first_corner s) s numbers order) c.loop-k.invariant.5 c.lay_strip-end.ensures.front,
     )
 
 pub returns : goal.returns

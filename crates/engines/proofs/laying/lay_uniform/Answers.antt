@@ -12,14 +12,14 @@ use Rattle.engines.proofs.laying.lay_uniform.Goals as goal
 same : (n : ℕ) (q : Oriented) → n ≤ 64 → take (n - 0) (replicate 64 q) ≡ replicate n q
 same n q few = less_zero n (replicate 64 q) (replicate n q) (take-replicate n 64 q few)
 
-pub slice-bounds-lay-pieces-end : goal.slice-bounds-lay-pieces-end
-slice-bounds-lay-pieces-end c =
+pub slice_bounds-lay_pieces-end : goal.slice_bounds-lay_pieces-end
+slice_bounds-lay_pieces-end c =
     let s = c.args.segment in
     let few = few_pieces s.length s.width c.args.q (omega (arith, c.requires.along)) c.requires.number in
     search rules
 
-pub lay-pieces-requires : goal.lay-pieces-requires
-lay-pieces-requires c =
+pub lay_pieces-requires : goal.lay_pieces-requires
+lay_pieces-requires c =
     let s = c.args.segment in
     let q = c.args.q in
     let many = s.length / q.along in
@@ -35,5 +35,5 @@ returns c =
     let q = c.args.q in
     let k = c.args.corner in
     let many = s.length / q.along in
-    subst (λ (os : List Oriented). Written (rows_of_strip k.segment k.strip k.y k.x os) c.args.start c.args.rows.now c.lay-pieces.new.rows c.lay-pieces.result)
-    (same many q (few_pieces s.length s.width q (omega (arith, c.requires.along)) c.requires.number)) c.lay-pieces.ensures
+    subst (λ (os : List Oriented). Written (rows_of_strip k.segment k.strip k.y k.x os) c.args.start c.args.rows.now c.lay_pieces.new.rows c.lay_pieces.result)
+    (same many q (few_pieces s.length s.width q (omega (arith, c.requires.along)) c.requires.number)) c.lay_pieces.ensures

@@ -4,13 +4,13 @@ use Rattle.patterns.specs.Numbers.{inside, no_piece}
 use Rattle.engines.proofs.Lists.{keep_more}
 use Rattle.engines.proofs.numbers.fitting.Goals as goal
 
-pub put-if-n-requires : goal.put-if-n-requires
-put-if-n-requires c = omega (arith, c.loop-o.invariant.0, c.loop-o-test.true, c.requires, c.loop-o.auto.out)
+pub put_if-n-requires : goal.put_if-n-requires
+put_if-n-requires c = omega (arith, c.loop-o.invariant.0, c.loop-o-test.true, c.requires, c.loop-o.auto.out)
 
 pub loop-o-preserved : goal.loop-o-preserved
 loop-o-preserved c = (
-  omega (arith, c.loop-o.invariant.0, c.put-if-n.ensures.few),
-  keep_more (inside c.args.length c.args.width) c.args.numbers.now c.loop-o.o-index no_piece (take c.loop-o.n c.loop-o.out) (take c.put-if-n.result c.put-if-n.new.out) c.is-inside.result c.loop-o-test.true c.is-inside.ensures c.loop-o.invariant.1 c.put-if-n.ensures.put,
+  omega (arith, c.loop-o.invariant.0, c.put_if-n.ensures.few),
+  keep_more (inside c.args.length c.args.width) c.args.numbers.now c.loop-o.o-index no_piece (take c.loop-o.n c.loop-o.out) (take c.put_if-n.result c.put_if-n.new.out) c.is_inside.result c.loop-o-test.true c.is_inside.ensures c.loop-o.invariant.1 c.put_if-n.ensures.put,
 )
 
 pub returns : goal.returns

@@ -29,13 +29,13 @@ pub unwrap-chosen-requires : goal.unwrap-chosen-requires
 unwrap-chosen-requires c =
     let s = c.args.segment in
     let numbers = c.args.numbers.now in
-    let n = c.offer-strips-n.result in
-    let cands = c.offer-strips-n.new.candidates in
-    let places = length c.offer-strips-n.new.table in
+    let n = c.offer_strips-n.result in
+    let cands = c.offer_strips-n.new.candidates in
+    let places = length c.offer_strips-n.new.table in
     let stock = held_stock s.length 3200 s.width numbers (omega (arith, c.requires.along)) c.requires.stock in
     chosen_some (take (n - 0) cands) s.width places 64 (replicate 64 0) c.choose.new.order c.choose.result c.choose.ensures.answered
     (record {
-      workable = workable n cands (offered s numbers) s.width places c.offer-strips-n.ensures.offered (strips_fair s.length s.width (no_longer s.length numbers) stock s.filling) c.requires.stock.across_most (omega (arith, c.requires.table, c.requires.stock.across_most, c.offer-strips-n.auto.table));
+      workable = workable n cands (offered s numbers) s.width places c.offer_strips-n.ensures.offered (strips_fair s.length s.width (no_longer s.length numbers) stock s.filling) c.requires.stock.across_most (omega (arith, c.requires.table, c.requires.stock.across_most, c.offer_strips-n.auto.table));
       enough = omega arith;
     })
 
@@ -68,26 +68,26 @@ module _ (s : Segment) (numbers : List Oriented) (small : s.length ≤ 3200) (st
       ap (λ os. strip_rows (first_corner s) s os (take (count - 0) order)) held_are ∙ ap (strip_rows (first_corner s) s (no_longer s.length numbers)) order_is
       ∙ sym (ap (λ sts. lay s.number 0 s.x 0 sts) (strips_are s.length s.width (no_longer s.length numbers) fewer s.filling))
 
-pub lay-strips-end-requires : goal.lay-strips-end-requires
-lay-strips-end-requires c =
+pub lay_strips-end-requires : goal.lay_strips-end-requires
+lay_strips-end-requires c =
     let s = c.args.segment in
     let numbers = c.args.numbers.now in
     let small : s.length ≤ 3200 = omega (arith, c.requires.along) in
-    let n = c.offer-strips-n.result in
-    let cands = c.offer-strips-n.new.candidates in
-    let held = c.offer-strips-n.new.held in
+    let n = c.offer_strips-n.result in
+    let cands = c.offer_strips-n.new.candidates in
+    let held = c.offer_strips-n.new.held in
     let order = c.choose.new.order in
     let count = c.unwrap-chosen.result.count in
-    let chosen = chosen_is (take (n - 0) cands) s.width (length c.offer-strips-n.new.table) 64 (replicate 64 0) order c.choose.result c.unwrap-chosen.result c.unwrap-chosen.ensures c.choose.ensures.answered in
-    let e₁ = c.offer-strips-n.ensures.held in
-    let e₂ = c.offer-strips-n.ensures.offered in
+    let chosen = chosen_is (take (n - 0) cands) s.width (length c.offer_strips-n.new.table) 64 (replicate 64 0) order c.choose.result c.unwrap-chosen.result c.unwrap-chosen.ensures c.choose.ensures.answered in
+    let e₁ = c.offer_strips-n.ensures.held in
+    let e₂ = c.offer_strips-n.ensures.offered in
     record {
       stock = stock_is s numbers small c.requires.stock n count held cands order e₁ e₂ chosen.computed;
       known = known_is s numbers small c.requires.stock n count held cands order e₁ e₂ chosen.computed;
       strips = omega (arith, length-take-le (count - 0) order (omega (arith, chosen.short, c.choose.auto.order)), chosen.short);
       across = omega (arith, across_is s numbers small c.requires.stock n count held cands order e₁ e₂ chosen.computed, c.requires.stock.across_most);
       along = c.requires.along;
-      table = omega (arith, c.requires.table, c.offer-strips-n.auto.table, c.choose.auto.table);
+      table = omega (arith, c.requires.table, c.offer_strips-n.auto.table, c.choose.auto.table);
       room = omega (arith, ap length (laid_are s numbers small c.requires.stock n count held cands order e₁ e₂ chosen.computed), c.requires.room);
     }
 
@@ -96,15 +96,15 @@ returns c =
     let s = c.args.segment in
     let numbers = c.args.numbers.now in
     let small : s.length ≤ 3200 = omega (arith, c.requires.along) in
-    let n = c.offer-strips-n.result in
-    let cands = c.offer-strips-n.new.candidates in
-    let held = c.offer-strips-n.new.held in
+    let n = c.offer_strips-n.result in
+    let cands = c.offer_strips-n.new.candidates in
+    let held = c.offer_strips-n.new.held in
     let order = c.choose.new.order in
     let count = c.unwrap-chosen.result.count in
-    let chosen = chosen_is (take (n - 0) cands) s.width (length c.offer-strips-n.new.table) 64 (replicate 64 0) order c.choose.result c.unwrap-chosen.result c.unwrap-chosen.ensures c.choose.ensures.answered in
+    let chosen = chosen_is (take (n - 0) cands) s.width (length c.offer_strips-n.new.table) 64 (replicate 64 0) order c.choose.result c.unwrap-chosen.result c.unwrap-chosen.ensures c.choose.ensures.answered in
     record {
       written =
-          subst (λ (rows : List Row). Written rows c.args.start c.args.rows.now c.lay-strips-end.new.rows c.lay-strips-end.result)
-          (laid_are s numbers small c.requires.stock n count held cands order c.offer-strips-n.ensures.held c.offer-strips-n.ensures.offered chosen.computed) c.lay-strips-end.ensures;
-      worth = chosen.greatest.computed ∙ ap (λ cs. most plain cs s.width) (less_zero n cands (offered s numbers) c.offer-strips-n.ensures.offered);
+          subst (λ (rows : List Row). Written rows c.args.start c.args.rows.now c.lay_strips-end.new.rows c.lay_strips-end.result)
+          (laid_are s numbers small c.requires.stock n count held cands order c.offer_strips-n.ensures.held c.offer_strips-n.ensures.offered chosen.computed) c.lay_strips-end.ensures;
+      worth = chosen.greatest.computed ∙ ap (λ cs. most plain cs s.width) (less_zero n cands (offered s numbers) c.offer_strips-n.ensures.offered);
     }

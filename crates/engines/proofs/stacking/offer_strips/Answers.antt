@@ -7,8 +7,8 @@ use Rattle.engines.proofs.Lists.{less_zero, front_made}
 use Rattle.engines.proofs.Holding.{held_is, held_stock}
 use Rattle.engines.proofs.stacking.offer_strips.Goals as goal
 
-pub write-strips-requires : goal.write-strips-requires
-write-strips-requires c =
+pub write_strips-requires : goal.write_strips-requires
+write_strips-requires c =
     let s = c.args.segment in
     let numbers = c.args.numbers.now in
     let n = c.fitting-n.result in
@@ -30,5 +30,5 @@ returns c =
     record {
       few = omega (arith, c.fitting-n.ensures.few, c.requires.stock.few);
       held = is;
-      offered = front_made n held (no_longer s.length numbers) c.write-strips.new.out (λ (os : List Oriented). map by_across (map (strip_in s os) os)) (omega (arith, c.fitting-n.ensures.few, c.requires.stock.few, c.requires.places, c.fitting-n.auto.out)) is c.write-strips.ensures;
+      offered = front_made n held (no_longer s.length numbers) c.write_strips.new.out (λ (os : List Oriented). map by_across (map (strip_in s os) os)) (omega (arith, c.fitting-n.ensures.few, c.requires.stock.few, c.requires.places, c.fitting-n.auto.out)) is c.write_strips.ensures;
     }

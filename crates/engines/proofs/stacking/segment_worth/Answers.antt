@@ -18,17 +18,17 @@ pub unwrap-requires : goal.unwrap-requires
 unwrap-requires c =
     let s = c.args.segment in
     let numbers = c.args.numbers.now in
-    let n = c.offer-strips-n.result in
-    let cands = c.offer-strips-n.new.candidates in
-    let places = length c.offer-strips-n.new.table in
+    let n = c.offer_strips-n.result in
+    let cands = c.offer_strips-n.new.candidates in
+    let places = length c.offer_strips-n.new.table in
     let stock = held_stock s.length 3200 s.width numbers c.requires.along c.requires.stock in
-    worth_some (take (n - 0) cands) s.width places c.greatest_worth_lem.result c.greatest_worth_lem.ensures.answered
-    (workable n cands (offered s numbers) s.width places c.offer-strips-n.ensures.offered (strips_fair s.length s.width (no_longer s.length numbers) stock s.filling) c.requires.stock.across_most (omega (arith, c.requires.table, c.requires.stock.across_most, c.offer-strips-n.auto.table)))
+    worth_some (take (n - 0) cands) s.width places c.greatest_worth.result c.greatest_worth.ensures.answered
+    (workable n cands (offered s numbers) s.width places c.offer_strips-n.ensures.offered (strips_fair s.length s.width (no_longer s.length numbers) stock s.filling) c.requires.stock.across_most (omega (arith, c.requires.table, c.requires.stock.across_most, c.offer_strips-n.auto.table)))
 
 pub returns : goal.returns
 returns c =
     let s = c.args.segment in
-    let n = c.offer-strips-n.result in
-    let cands = c.offer-strips-n.new.candidates in
-    worth_is (take (n - 0) cands) s.width (length c.offer-strips-n.new.table) c.greatest_worth_lem.result c.unwrap.result c.unwrap.ensures c.greatest_worth_lem.ensures.answered
-    ∙ ap (λ cs. most plain cs s.width) (less_zero n cands (offered s c.args.numbers.now) c.offer-strips-n.ensures.offered)
+    let n = c.offer_strips-n.result in
+    let cands = c.offer_strips-n.new.candidates in
+    worth_is (take (n - 0) cands) s.width (length c.offer_strips-n.new.table) c.greatest_worth.result c.unwrap.result c.unwrap.ensures c.greatest_worth.ensures.answered
+    ∙ ap (λ cs. most plain cs s.width) (less_zero n cands (offered s c.args.numbers.now) c.offer_strips-n.ensures.offered)

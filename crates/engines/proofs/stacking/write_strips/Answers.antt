@@ -9,8 +9,8 @@ use Rattle.engines.proofs.Lists.{map_written, all_written, map_twice}
 use Rattle.engines.proofs.Chosen.{strip_across}
 use Rattle.engines.proofs.stacking.write_strips.Goals as goal
 
-pub strip-worth-requires : goal.strip-worth-requires
-strip-worth-requires c =
+pub strip_worth-requires : goal.strip_worth-requires
+strip_worth-requires c =
     let s = c.args.segment in
     record {
       stock = c.requires.stock;

@@ -5,8 +5,8 @@ use Rattle.engines.specs.Writing.{Known}
 use Rattle.engines.proofs.Lists.{map_written, all_written}
 use Rattle.engines.proofs.strip.gather.Goals as goal
 
-pub offset-bounds-numbers-k : goal.offset-bounds-numbers-k
-offset-bounds-numbers-k c =
+pub offset_bounds-numbers-k : goal.offset_bounds-numbers-k
+offset_bounds-numbers-k c =
     let known = All-get_or (Known c.args.numbers.now) c.args.positions.now c.loop-i.i 0 c.loop-i-test.true c.requires.known in
     search rules
 

@@ -15,5 +15,5 @@ returns c =
     record {
       few = omega (arith, c.fitting-n.ensures.few, c.requires.stock.few);
       narrow = kept;
-      offered = front_made n narrow (no_wider h numbers) c.write-pieces.new.out (map (by_along by_value)) (omega (arith, c.fitting-n.ensures.few, c.requires.stock.few, c.requires.places, c.fitting-n.auto.out)) kept c.write-pieces.ensures;
+      offered = front_made n narrow (no_wider h numbers) c.write_pieces.new.out (map (by_along by_value)) (omega (arith, c.fitting-n.ensures.few, c.requires.stock.few, c.requires.places, c.fitting-n.auto.out)) kept c.write_pieces.ensures;
     }

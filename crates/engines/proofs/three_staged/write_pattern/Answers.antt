@@ -10,7 +10,7 @@ pub returns : goal.returns
 returns c =
     let m = model c.args.task.now in
     let rows = c.args.rows.now in
-    let end = c.lay-sides-laid.result.end in
-    let total = c.lay-sides-laid.result.worth in
-    first_rows m (three_staged_pattern by_value m) rows c.blank-from.new.rows (record { rows = end; worth = total }) c.requires.places
-    (finished m (three_staged_pattern by_value m) (take (4096 - 0) rows) c.lay-sides-laid.new.rows c.blank-from.new.rows end total (length-take-le (4096 - 0) rows c.requires.places) c.lay-sides-laid.auto.rows c.lay-sides-laid.ensures.written c.blank-from.ensures c.lay-sides-laid.ensures.worth)
+    let end = c.lay_sides-laid.result.end in
+    let total = c.lay_sides-laid.result.worth in
+    first_rows m (three_staged_pattern by_value m) rows c.blank_from.new.rows (record { rows = end; worth = total }) c.requires.places
+    (finished m (three_staged_pattern by_value m) (take (4096 - 0) rows) c.lay_sides-laid.new.rows c.blank_from.new.rows end total (length-take-le (4096 - 0) rows c.requires.places) c.lay_sides-laid.auto.rows c.lay_sides-laid.ensures.written c.blank_from.ensures c.lay_sides-laid.ensures.worth)

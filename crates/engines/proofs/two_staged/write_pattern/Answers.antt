@@ -9,19 +9,19 @@ use Rattle.engines.proofs.Finishing.{finished, first_rows}
 use Rattle.engines.proofs.TwoPattern.{stock_are, two_rows, two_worth, two_few}
 use Rattle.engines.proofs.two_staged.write_pattern.Goals as goal
 
-pub lay-segment-laid-requires : goal.lay-segment-laid-requires
-lay-segment-laid-requires c =
+pub lay_segment-laid-requires : goal.lay_segment-laid-requires
+lay_segment-laid-requires c =
     let m = model c.args.task.now in
     let ok = c.kinds.ensures.limits in
     let l = c.length-length.result in
     let w = c.width-width.result in
     let kinds = c.kinds.result.now in
-    let n = c.count-numbers-n.result in
-    let table = c.count-numbers-n.new.out in
-    let room : n ≤ length table = omega (arith, c.count-numbers-n.ensures.few, c.count-numbers-n.auto.out) in
-    let same = two_rows m ok l w kinds n table c.length-length.ensures c.width-width.ensures c.kinds.ensures.kinds c.count-numbers-n.ensures.few room c.count-numbers-n.ensures.counted in
+    let n = c.count_numbers-n.result in
+    let table = c.count_numbers-n.new.out in
+    let room : n ≤ length table = omega (arith, c.count_numbers-n.ensures.few, c.count_numbers-n.auto.out) in
+    let same = two_rows m ok l w kinds n table c.length-length.ensures c.width-width.ensures c.kinds.ensures.kinds c.count_numbers-n.ensures.few room c.count_numbers-n.ensures.counted in
     record {
-      stock = stock_are m ok l w kinds n table c.length-length.ensures c.width-width.ensures c.kinds.ensures.kinds c.count-numbers-n.ensures.few room c.count-numbers-n.ensures.counted;
+      stock = stock_are m ok l w kinds n table c.length-length.ensures c.width-width.ensures c.kinds.ensures.kinds c.count_numbers-n.ensures.few room c.count_numbers-n.ensures.counted;
       along = omega (arith, ok.plate, c.length-length.ensures);
       table = omega (arith, c.requires.words);
       room = omega (arith, ap length same, two_few m ok, length-take-le (4096 - 0) c.args.rows.now c.requires.places);
@@ -34,16 +34,16 @@ returns c =
     let l = c.length-length.result in
     let w = c.width-width.result in
     let kinds = c.kinds.result.now in
-    let n = c.count-numbers-n.result in
-    let table = c.count-numbers-n.new.out in
-    let room : n ≤ length table = omega (arith, c.count-numbers-n.ensures.few, c.count-numbers-n.auto.out) in
+    let n = c.count_numbers-n.result in
+    let table = c.count_numbers-n.new.out in
+    let room : n ≤ length table = omega (arith, c.count_numbers-n.ensures.few, c.count_numbers-n.auto.out) in
     let rows = c.args.rows.now in
-    let laid = c.lay-segment-laid.new.rows in
-    let end = c.lay-segment-laid.result.end in
-    let total = c.lay-segment-laid.result.worth in
-    first_rows m (two_staged_pattern by_value m) rows c.blank-from.new.rows (record { rows = end; worth = total }) c.requires.places
-    (finished m (two_staged_pattern by_value m) (take (4096 - 0) rows) laid c.blank-from.new.rows end total (length-take-le (4096 - 0) rows c.requires.places) c.lay-segment-laid.auto.rows
+    let laid = c.lay_segment-laid.new.rows in
+    let end = c.lay_segment-laid.result.end in
+    let total = c.lay_segment-laid.result.worth in
+    first_rows m (two_staged_pattern by_value m) rows c.blank_from.new.rows (record { rows = end; worth = total }) c.requires.places
+    (finished m (two_staged_pattern by_value m) (take (4096 - 0) rows) laid c.blank_from.new.rows end total (length-take-le (4096 - 0) rows c.requires.places) c.lay_segment-laid.auto.rows
     (subst (λ (z : List Row). Written z 0 (take (4096 - 0) rows) laid end)
-    (two_rows m ok l w kinds n table c.length-length.ensures c.width-width.ensures c.kinds.ensures.kinds c.count-numbers-n.ensures.few room c.count-numbers-n.ensures.counted) c.lay-segment-laid.ensures.written)
-    c.blank-from.ensures
-    (c.lay-segment-laid.ensures.worth ∙ two_worth m ok l w kinds n table c.length-length.ensures c.width-width.ensures c.kinds.ensures.kinds c.count-numbers-n.ensures.few room c.count-numbers-n.ensures.counted))
+    (two_rows m ok l w kinds n table c.length-length.ensures c.width-width.ensures c.kinds.ensures.kinds c.count_numbers-n.ensures.few room c.count_numbers-n.ensures.counted) c.lay_segment-laid.ensures.written)
+    c.blank_from.ensures
+    (c.lay_segment-laid.ensures.worth ∙ two_worth m ok l w kinds n table c.length-length.ensures c.width-width.ensures c.kinds.ensures.kinds c.count_numbers-n.ensures.few room c.count_numbers-n.ensures.counted))

@@ -5,21 +5,21 @@ use Rattle.inspection.proofs.Decide.{Remains}
 use Rattle.inspection.proofs.stages.+apart_by_length_apart_by_width.Given as goal
 
 -- the stages left fall with each call
-abbrev pub decreases-apart-by-length : goal.decreases-apart-by-length
-decreases-apart-by-length l = l.stages
+abbrev pub decreases-apart_by_length : goal.decreases-apart_by_length
+decreases-apart_by_length l = l.stages
 
-abbrev pub decreases-apart-by-width : goal.decreases-apart-by-width
-decreases-apart-by-width l = l.stages
+abbrev pub decreases-apart_by_width : goal.decreases-apart_by_width
+decreases-apart_by_width l = l.stages
 
 -- only the rest of the part is left to decide
-abbrev pub invariant-apart-by-length-loop-u : goal.invariant-apart-by-length-loop-u
-invariant-apart-by-length-loop-u l = Remains l.saw (placed Length l.places) l.stages l.initial.rest l.rest
+abbrev pub invariant-apart_by_length-loop-u : goal.invariant-apart_by_length-loop-u
+invariant-apart_by_length-loop-u l = Remains l.saw (placed Length l.places) l.stages l.initial.rest l.rest
 
-abbrev pub decreases-apart-by-length-loop-u : goal.decreases-apart-by-length-loop-u
-decreases-apart-by-length-loop-u l = l.rest.along.to - l.rest.along.from
+abbrev pub decreases-apart_by_length-loop-u : goal.decreases-apart_by_length-loop-u
+decreases-apart_by_length-loop-u l = l.rest.along.to - l.rest.along.from
 
-abbrev pub invariant-apart-by-width-loop-u : goal.invariant-apart-by-width-loop-u
-invariant-apart-by-width-loop-u l = Remains l.saw (placed Width l.places) l.stages l.initial.rest l.rest
+abbrev pub invariant-apart_by_width-loop-u : goal.invariant-apart_by_width-loop-u
+invariant-apart_by_width-loop-u l = Remains l.saw (placed Width l.places) l.stages l.initial.rest l.rest
 
-abbrev pub decreases-apart-by-width-loop-u : goal.decreases-apart-by-width-loop-u
-decreases-apart-by-width-loop-u l = l.rest.along.to - l.rest.along.from
+abbrev pub decreases-apart_by_width-loop-u : goal.decreases-apart_by_width-loop-u
+decreases-apart_by_width-loop-u l = l.rest.along.to - l.rest.along.from

@@ -6,7 +6,7 @@ pub returns : goal.returns
 returns c ok =
     let before = string_bytes c.args.out.now in
     let items = c.args.items.now in
-    c.push-counts.ensures ok
-    ∙ ap (λ z. z ++ count_words (length items) c.pieces-of-items.result) (c.in-ok-push-head.ensures refl)
-    ∙ append_assoc before (head_words c.args.head) (count_words (length items) c.pieces-of-items.result)
-    ∙ ap (λ n. before ++ (head_words c.args.head ++ count_words (length items) n)) c.pieces-of-items.ensures
+    c.push_counts.ensures ok
+    ∙ ap (λ z. z ++ count_words (length items) c.pieces_of_items.result) (c.in_ok-push_head.ensures refl)
+    ∙ append_assoc before (head_words c.args.head) (count_words (length items) c.pieces_of_items.result)
+    ∙ ap (λ n. before ++ (head_words c.args.head ++ count_words (length items) n)) c.pieces_of_items.ensures

@@ -6,4 +6,4 @@ use Rattle.piles.proofs.nothing.write_nothing.Goals as goal
 pub returns : goal.returns
 returns c =
     let old = c.args.rows.now in
-    ap (λ rs. rs ++ drop 4096 old) (c.blank-from.ensures ∙ ap (λ n. replicate (n - 0) blank) (length-take-le 4096 old c.requires))
+    ap (λ rs. rs ++ drop 4096 old) (c.blank_from.ensures ∙ ap (λ n. replicate (n - 0) blank) (length-take-le 4096 old c.requires))

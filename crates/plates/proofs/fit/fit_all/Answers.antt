@@ -8,7 +8,7 @@ loop-entry-preserved g c =
     let xs = c.args.entries.now in
     let i = c.loop-entry.entry-index in
     let x = c.entry-item.result in
-    c.in-ok-push.ensures.items
+    c.in_ok-push.ensures.items
     ∙ ap (λ z. z ++ (c.fit.result ∷ [])) c.loop-entry.invariant
     ∙ ap (λ z. map f (take i xs) ++ (z ∷ [])) c.fit.ensures
     ∙ ap (λ z. map f (take i xs) ++ (f z ∷ [])) c.entry-item.is

@@ -15,4 +15,4 @@ upto f rows count most e =
     ]
 
 pub returns : goal.returns
-returns g c = c.change-front.ensures ∙ upto (g.C.Change.changed c.args.by.now) c.args.rows.now c.args.count c.min.result c.min.ensures
+returns g c = c.change_front.ensures ∙ upto (g.C.Change.changed c.args.by.now) c.args.rows.now c.args.count c.min.result c.min.ensures

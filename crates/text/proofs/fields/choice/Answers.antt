@@ -5,13 +5,13 @@ use Rattle.text.specs.Fields.{mark, Word}
 use Rattle.text.proofs.Parts.{in_letter, past_letter}
 use Rattle.text.proofs.fields.choice.Goals as goal
 
-pub returns-in-err-chosen : goal.returns-in-err-chosen
-returns-in-err-chosen c =
+pub returns-in_err-chosen : goal.returns-in_err-chosen
+returns-in_err-chosen c =
     let p = err_from_is_err_and c.from-residual.result c.from-residual.ensures.1 in
-    rw (p.1, p.2) (in_letter c.args.letters (mark c.args.end) c.in-err-chosen.ensures)
+    rw (p.1, p.2) (in_letter c.args.letters (mark c.args.end) c.in_err-chosen.ensures)
 
-pub returns-in-err-after : goal.returns-in-err-after
-returns-in-err-after c =
-    let p = err_from_is_err_and c.from-residual-in-err-after.result c.from-residual-in-err-after.ensures.1 in
-    rw (p.1, p.2) (past_letter c.args.letters (mark c.args.end) c.in-ok-chosen.chosen c.in-ok-chosen.ensures
-    (subst (λ m. Stops (Word (m ∷ [])) c.in-ok-chosen.rest.now c.in-err-after.field-0.0.left.now) c.mark-of.ensures c.in-err-after.ensures))
+pub returns-in_err-after : goal.returns-in_err-after
+returns-in_err-after c =
+    let p = err_from_is_err_and c.from-residual-in_err-after.result c.from-residual-in_err-after.ensures.1 in
+    rw (p.1, p.2) (past_letter c.args.letters (mark c.args.end) c.in_ok-chosen.chosen c.in_ok-chosen.ensures
+    (subst (λ m. Stops (Word (m ∷ [])) c.in_ok-chosen.rest.now c.in_err-after.field-0.0.left.now) c.mark_of.ensures c.in_err-after.ensures))

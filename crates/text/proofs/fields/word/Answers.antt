@@ -4,10 +4,10 @@ use Rattle.text.proofs.Codes.{head_same, push_rest, nil_not_cons}
 use Rattle.text.proofs.Words.{word_stops}
 use Rattle.text.proofs.fields.word.Goals as goal
 
-pub returns-in-default : goal.returns-in-default
-returns-in-default c =
+pub returns-in_default : goal.returns-in_default
+returns-in_default c =
     word_stops c.args.expected.now c.loop-byte.byte-index c.loop-byte-test.true c.args.text.now c.loop-byte.rest.now c.loop-byte.invariant
-    (λ b more e _. nil_not_cons c.loop-byte.rest.now b more c.in-default.ensures.cases e)
+    (λ b more e _. nil_not_cons c.loop-byte.rest.now b more c.in_default.ensures.cases e)
 
 pub returns-then-first-byte : goal.returns-then-first-byte
 returns-then-first-byte c =

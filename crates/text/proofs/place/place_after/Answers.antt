@@ -11,8 +11,8 @@ loop-byte-preserved c =
     let b = get_or s i 0 in
     let h = c.loop-byte-test.true in
     let v = c.loop-byte.invariant in
-    let line = c.next-place-place.ensures.line in
-    let column = c.next-place-place.ensures.column in (
+    let line = c.next_place-place.ensures.line in
+    let column = c.next_place-place.ensures.column in (
       line ∙ ap (λ n. next_line n b) v.0 ∙ sym (line_more s i h),
       column ∙ ap (λ n. next_column n b) v.1 ∙ sym (column_more s i h),
       subst (λ n. n ≤ i + 1 + 1) (sym line) (line_slow _ b (i + 1) v.2),

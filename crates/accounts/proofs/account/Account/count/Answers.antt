@@ -1,8 +1,8 @@
 use Rattle.accounts.proofs.Books.{counts_bounded, counts_kept, counts_lawful}
 use Rattle.accounts.proofs.account.Account.count.Goals as goal
 
-pub invariant-of-self : goal.invariant-of-self
-invariant-of-self c =
+pub invariant_of-self : goal.invariant_of-self
+invariant_of-self c =
     let a = c.args.self.now in
     let counts = c.in-Ok.ensures.counts in
     (a.few, ((a.full.0, counts.full), (a.numbers, (counts_bounded a c.args.rows.now c.args.runs c.in-Ok.counts counts, tt))))

@@ -11,22 +11,22 @@ returns c =
     let a = c.args.self.now in
     let rows = c.args.rows.now in
     record {
-      answer = accepted (book a) rows c.tally-tallies.result c.args.runs c.in-Some.sums (lawful_book a) c.tally-tallies.ensures c.in-Some.ensures (subst (λ (ordered : List ℕ). Accepted (RowsCause (size ordered) rows c.args.runs)) c.ordered.ensures c.in-ok-check-rows.ensures.answer);
+      answer = accepted (book a) rows c.tally-tallies.result c.args.runs c.in-Some.sums (lawful_book a) c.tally-tallies.ensures c.in-Some.ensures (subst (λ (ordered : List ℕ). Accepted (RowsCause (size ordered) rows c.args.runs)) c.ordered.ensures c.in_ok-check_rows.ensures.answer);
       limits = lawful_book a;
       counts = counts (book a) rows c.tally-tallies.result c.args.runs c.in-Some.sums (lawful_book a) c.tally-tallies.ensures c.in-Some.ensures;
     }
 
-pub returns-in-err-check-rows : goal.returns-in-err-check-rows
-returns-in-err-check-rows c =
+pub returns-in_err-check_rows : goal.returns-in_err-check_rows
+returns-in_err-check_rows c =
     let a = c.args.self.now in
     let rows = c.args.rows.now in
-    let e = c.in-err-check-rows.field-0.0 in
+    let e = c.in_err-check_rows.field-0.0 in
     let p = err_from_is_err_and c.from-residual.result c.from-residual.ensures.1 in
     rw (p.1, p.2) (record {
-      answer = rows_refused (book a) rows c.args.runs e (subst (λ (ordered : List ℕ). RefusedBy (RowsCause (size ordered) rows c.args.runs) e) c.ordered.ensures c.in-err-check-rows.ensures.answer);
+      answer = rows_refused (book a) rows c.args.runs e (subst (λ (ordered : List ℕ). RefusedBy (RowsCause (size ordered) rows c.args.runs) e) c.ordered.ensures c.in_err-check_rows.ensures.answer);
       limits = lawful_book a;
       counts = tt;
     })
 
-pub returns-in-default : goal.returns-in-default
-returns-in-default c = record { answer = search rules; limits = lawful_book c.args.self.now; counts = tt }
+pub returns-in_default : goal.returns-in_default
+returns-in_default c = record { answer = search rules; limits = lawful_book c.args.self.now; counts = tt }

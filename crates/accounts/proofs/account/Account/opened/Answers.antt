@@ -4,19 +4,19 @@ use Rattle.accounts.specs.Accounts.{EachNumber}
 use Rattle.accounts.proofs.Books.{copied_front, copied_long, nothing_past, opened_book}
 use Rattle.accounts.proofs.account.Account.opened.Goals as goal
 
-pub invariant-of-result : goal.invariant-of-result
-invariant-of-result c =
+pub invariant_of-result : goal.invariant_of-result
+invariant_of-result c =
     let numbers = c.args.ordered.now in
-    let table = c.copy-numbers.new.to in (
+    let table = c.copy_numbers.new.to in (
       c.requires.few,
       (
-        (copied_long numbers _ table c.requires.few c.copy-numbers.ensures, refl),
-        (subst (EachNumber (Between 1 10000)) (sym (copied_front numbers _ table c.copy-numbers.ensures)) c.requires.numbers, (nothing_past _ table c.requires.few, tt)),
+        (copied_long numbers _ table c.requires.few c.copy_numbers.ensures, refl),
+        (subst (EachNumber (Between 1 10000)) (sym (copied_front numbers _ table c.copy_numbers.ensures)) c.requires.numbers, (nothing_past _ table c.requires.few, tt)),
       ),
     )
 
 pub returns : goal.returns
 returns c =
     let numbers = c.args.ordered.now in
-    let table = c.copy-numbers.new.to in
-    opened_book numbers table c.requires.few (copied_front numbers _ table c.copy-numbers.ensures)
+    let table = c.copy_numbers.new.to in
+    opened_book numbers table c.requires.few (copied_front numbers _ table c.copy_numbers.ensures)

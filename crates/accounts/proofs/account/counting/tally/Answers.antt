@@ -6,13 +6,13 @@ use Rattle.layout.specs.Pieces.{blank}
 use Rattle.accounts.specs.Accounts.{Tallied}
 use Rattle.accounts.proofs.Tallies.{kept_bound, tallied_none, tallied_keep, tallied_spare}
 use Rattle.accounts.proofs.account.counting.tally.Goals as goal
-use Rattle.accounts.proofs.account.counting.tally.Goals.{then-is-kept, else-is-kept}
+use Rattle.accounts.proofs.account.counting.tally.Goals.{then-is_kept, else-is_kept}
 
 pub loop-row-init : goal.loop-row-init
 loop-row-init c = tallied_none
 
-pub overflow-add-table : goal.overflow-add-table
-overflow-add-table c =
+pub overflow_add-table : goal.overflow_add-table
+overflow_add-table c =
     let rows = c.args.rows.now in
     let i = c.loop-row.row-index in
     let kind = (get_or rows i blank).kind in
@@ -22,9 +22,9 @@ pub loop-row-preserved : goal.loop-row-preserved
 loop-row-preserved c =
     let rows = c.args.rows.now in
     let i = c.loop-row.row-index in
-    elim c.if-is-kept.branch [
-      | then-is-kept w ↦ rw w.table-is (tallied_keep rows c.loop-row.table i c.loop-row-test.true (c.requires.known i c.loop-row-test.true) (w.if-is-kept.ensures.0 refl) c.loop-row.invariant)
-      | else-is-kept w ↦ rw w.table-is (tallied_spare rows c.loop-row.table i c.loop-row-test.true (not_from_Decides _ c.is-kept.ensures w.if-is-kept.false) c.loop-row.invariant)
+    elim c.if-is_kept.branch [
+      | then-is_kept w ↦ rw w.table-is (tallied_keep rows c.loop-row.table i c.loop-row-test.true (c.requires.known i c.loop-row-test.true) (w.if-is_kept.ensures.0 refl) c.loop-row.invariant)
+      | else-is_kept w ↦ rw w.table-is (tallied_spare rows c.loop-row.table i c.loop-row-test.true (not_from_Decides _ c.is_kept.ensures w.if-is_kept.false) c.loop-row.invariant)
     ]
 
 pub returns : goal.returns

@@ -4,16 +4,17 @@ use Rattle.layout.specs.Tasks.{given}
 use Rattle.layout.proofs.KindLists.{copied_front, copied_long}
 use Rattle.layout.proofs.task.Task.filled.Goals as goal
 
-pub invariant-of-result : goal.invariant-of-result
-invariant-of-result c =
+pub invariant_of-result : goal.invariant_of-result
+invariant_of-result c =
     let kinds = c.args.kinds.now in
-    let front = sym (copied_front kinds _ c.copy-kinds.new.to c.copy-kinds.ensures) in (
-      c.requires.plate,
-      (
-        copied_long kinds _ c.copy-kinds.new.to c.requires.few c.copy-kinds.ensures,
-        (c.requires.few, (subst (EachKind LawfulSides) front c.requires.sides, (subst (EachKind LawfulValue) front c.requires.values, tt))),
-      ),
-    )
+    let front = sym (copied_front kinds _ c.copy_kinds.new.to c.copy_kinds.ensures) in
+    record {
+      plate = c.requires.plate;
+      full = copied_long kinds _ c.copy_kinds.new.to c.requires.few c.copy_kinds.ensures;
+      few = c.requires.few;
+      sides = subst (EachKind LawfulSides) front c.requires.sides;
+      values = subst (EachKind LawfulValue) front c.requires.values;
+    }
 
 pub returns : goal.returns
-returns c = ap (given c.args.length c.args.width) (copied_front c.args.kinds.now _ c.copy-kinds.new.to c.copy-kinds.ensures)
+returns c = ap (given c.args.length c.args.width) (copied_front c.args.kinds.now _ c.copy_kinds.new.to c.copy_kinds.ensures)

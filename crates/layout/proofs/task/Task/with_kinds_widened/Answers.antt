@@ -6,8 +6,8 @@ use Rattle.layout.specs.Variants.{with_panel}
 use Rattle.layout.proofs.Variants.{each_map, stretched_is_widened, widened_sides}
 use Rattle.layout.proofs.task.Task.with_kinds_widened.Goals as goal
 
-pub with-kinds-requires : goal.with-kinds-requires
-with-kinds-requires c =
+pub with_kinds-requires : goal.with_kinds-requires
+with_kinds-requires c =
     let t = c.args.self.now in
     let by = c.args.by in
     let room = c.requires.room in
@@ -21,4 +21,4 @@ with-kinds-requires c =
 pub returns : goal.returns
 returns c =
     let t = c.args.self.now in
-    c.with-kinds.ensures ∙ ap (given c.args.length c.args.width) (stretched_is_widened c.args.by (take t.count t.kinds) c.requires.room.0 c.requires.room.1)
+    c.with_kinds.ensures ∙ ap (given c.args.length c.args.width) (stretched_is_widened c.args.by (take t.count t.kinds) c.requires.room.0 c.requires.room.1)

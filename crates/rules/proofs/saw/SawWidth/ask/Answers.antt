@@ -14,17 +14,17 @@ unreachable-requires g c =
     let far = (g.met.R.Rule.lawful c.args.self.now.below).far in
     let limits : WithinLimits (widened_model c.added.result m) =
     widened_within_limits c.added.result m (omega (arith, far, c.added.ensures)) (task_within_limits c.args.task.now) (within_more (omega (arith, far, c.added.ensures)) c.requires.within) in
-    c.in-default.ensures limits
+    c.in_default.ensures limits
 
-pub unreachable-requires-in-default-best : goal.unreachable-requires-in-default-best
-unreachable-requires-in-default-best g c =
+pub unreachable-requires-in_default-best : goal.unreachable-requires-in_default-best
+unreachable-requires-in_default-best g c =
     let m = model c.args.task.now in
     let s = c.args.self.now in
     let reach = g.R.Rule.reach s.below in
     let width = min s.width reach in
     let wider = model c.in-Some.wider in
     let asked : wider ≡ widened_model width m = c.in-Some.ensures ∙ ap (λ w. widened_model w m) c.added.ensures in
-    not_refused wider (admitted_below m wider c.requires (λ w. subst (WithinReach reach) (sym asked) (widened_within_reach width m (omega arith) w))) c.in-default-best.ensures.answer
+    not_refused wider (admitted_below m wider c.requires (λ w. subst (WithinReach reach) (sym asked) (widened_within_reach width m (omega arith) w))) c.in_default-best.ensures.answer
 
 pub returns : goal.returns
 returns g c =

@@ -16,7 +16,7 @@ pub unreachable-requires : goal.unreachable-requires
 unreachable-requires g c =
     let m = model c.args.task.now in
     let low = model c.trimmed.result in
-    not_refused low (admitted_below m low c.requires (λ w. subst (WithinReach _) (sym c.trimmed.ensures) (trimmed_within_reach c.args.self.now.trim m w))) c.in-default.ensures.answer
+    not_refused low (admitted_below m low c.requires (λ w. subst (WithinReach _) (sym c.trimmed.ensures) (trimmed_within_reach c.args.self.now.trim m w))) c.in_default.ensures.answer
 
 pub returns : goal.returns
 returns g c =
@@ -36,7 +36,7 @@ returns g c =
     } in
     let moved = pushed_is_moved s.trim low pattern s.small within.limits (laws.proper low within pattern (laws.member low within)).placed in
     record {
-      rows = written_changed (pushed_row s.trim) pattern old _ _ _ (below.rows ∙ ap (λ n. written (named n) old) asked) count c.change-first.ensures ∙ ap (λ p. written p old) moved;
+      rows = written_changed (pushed_row s.trim) pattern old _ _ _ (below.rows ∙ ap (λ n. written (named n) old) asked) count c.change_first.ensures ∙ ap (λ p. written p old) moved;
       count = count ∙ sym (length-map pattern (moved_row s.trim));
       worth_is = below.worth_is ∙ ap (λ (n : Model). worth n (named n)) asked ∙ sym (worth_trimmed s.trim m pattern);
     }

@@ -14,7 +14,7 @@ pub unreachable-requires : goal.unreachable-requires
 unreachable-requires g c =
     let m = model c.args.task.now in
     let low = model c.exchanged.result in
-    not_refused low (admitted_below m low c.requires (λ w. subst (WithinReach _) (sym c.exchanged.ensures) (exchanged_within_reach m w))) c.in-default.ensures.answer
+    not_refused low (admitted_below m low c.requires (λ w. subst (WithinReach _) (sym c.exchanged.ensures) (exchanged_within_reach m w))) c.in_default.ensures.answer
 
 pub returns : goal.returns
 returns g c =
@@ -26,7 +26,7 @@ returns g c =
     let below = c.in-Ok.ensures.rows in
     let count = below.count ∙ ap (λ n. length (named n)) asked in
     record {
-      rows = written_changed exchanged_row pattern old _ _ _ (below.rows ∙ ap (λ n. written (named n) old) asked) count c.change-first.ensures;
+      rows = written_changed exchanged_row pattern old _ _ _ (below.rows ∙ ap (λ n. written (named n) old) asked) count c.change_first.ensures;
       count = count ∙ sym (length-map pattern exchanged_row);
       worth_is = below.worth_is ∙ ap (λ (n : Model). worth n (named n)) asked ∙ sym (worth_exchanged m pattern);
     }
