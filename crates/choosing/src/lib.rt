@@ -35,8 +35,8 @@ pub fn greatest_worth<W: Worth>(
     capacity: usize,
     table: &mut [W],
 ) -> Option<W>
-    ensures answered { MatchOption result (Workable scale within candidates.now capacity (length table.old) → ⊥) (λ worth. Workable scale within candidates.now capacity (length table.old) × GreatestWorth scale candidates.now capacity worth) }
-    ensures left { MatchOption result (table.new ≡ table.old) (λ _. Tabled scale candidates.now capacity table.old table.new) }
+    ensures answered { MatchOption result (Workable W.scale W.within candidates.now capacity (length table.old) → ⊥) (λ worth. Workable W.scale W.within candidates.now capacity (length table.old) × GreatestWorth W.scale candidates.now capacity worth) }
+    ensures left { MatchOption result (table.new ≡ table.old) (λ _. Tabled W.scale candidates.now capacity table.old table.new) }
 {
     if is_workable(candidates, capacity, table.len()) {
         Some(fill(table, candidates, capacity))
@@ -53,8 +53,8 @@ pub fn choose<W: Worth>(
     table: &mut [W],
     order: &mut [usize],
 ) -> Option<Selection<W>>
-    ensures answered { MatchOption result (Choosable scale within candidates.now capacity (length table.old) (length order.old) → ⊥) (λ chosen. Choosable scale within candidates.now capacity (length table.old) (length order.old) × Selected scale candidates.now capacity chosen order.old order.new) }
-    ensures left { MatchOption result ((table.new ≡ table.old) × (order.new ≡ order.old)) (λ _. Tabled scale candidates.now capacity table.old table.new) }
+    ensures answered { MatchOption result (Choosable W.scale W.within candidates.now capacity (length table.old) (length order.old) → ⊥) (λ chosen. Choosable W.scale W.within candidates.now capacity (length table.old) (length order.old) × Selected W.scale candidates.now capacity chosen order.old order.new) }
+    ensures left { MatchOption result ((table.new ≡ table.old) × (order.new ≡ order.old)) (λ _. Tabled W.scale candidates.now capacity table.old table.new) }
 {
     if is_workable(candidates, capacity, table.len()) && order.len() >= LONGEST {
         Some(select(candidates, capacity, table, order))

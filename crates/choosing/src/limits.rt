@@ -17,14 +17,14 @@ pub(crate) const LONGEST: usize = 64;
 
 // Whether a candidate takes room, is worth more than nothing and has few pieces.
 fn is_fair<W: Worth>(candidate: &Candidate<W>) -> bool
-    ensures { Decides result (FairOne scale within 64 candidate.now) }
+    ensures { Decides result (FairOne W.scale W.within 64 candidate.now) }
 {
     candidate.size >= LEAST_SIZE && W::nothing().less(candidate.worth) && candidate.worth.few()
 }
 
 // Whether each candidate is such.
 fn are_fair<W: Worth>(candidates: &[Candidate<W>]) -> bool
-    ensures { Decides result (Fair scale within 64 candidates.now) }
+    ensures { Decides result (Fair W.scale W.within 64 candidates.now) }
 {
     for c in candidates {
         if !is_fair(c) {
@@ -40,7 +40,7 @@ pub(crate) fn is_workable<W: Worth>(
     capacity: usize,
     places: usize,
 ) -> bool
-    ensures { Decides result (Workable scale within candidates.now capacity places) }
+    ensures { Decides result (Workable W.scale W.within candidates.now capacity places) }
 {
     capacity <= MOST_CAPACITY && capacity < places && are_fair(candidates)
 }

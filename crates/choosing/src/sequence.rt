@@ -11,8 +11,8 @@ use crate::{Candidate, Selection};
 
 // Whether a candidate fits and offers at least so much.
 fn reaches<W: Worth>(candidate: &Candidate<W>, table: &[W], capacity: usize, goal: W) -> bool
-    requires { Offerable scale within table.now candidate.now capacity }
-    ensures { MatchBool result (Reaches scale table.now capacity goal candidate.now) (Misses scale table.now capacity goal candidate.now) }
+    requires { Offerable W.scale W.within table.now candidate.now capacity }
+    ensures { MatchBool result (Reaches W.scale table.now capacity goal candidate.now) (Misses W.scale table.now capacity goal candidate.now) }
 {
     match offer(candidate, table, capacity) {
         Some(sum) => !sum.less(goal),
@@ -27,8 +27,8 @@ fn first_reaching<W: Worth>(
     capacity: usize,
     goal: W,
 ) -> Option<usize>
-    requires { Each (λ c. Offerable scale within table.now c capacity) candidates.now }
-    ensures { MatchOption result (Each (Misses scale table.now capacity goal) candidates.now) (λ k. FirstReaching scale table.now candidates.now capacity goal k) }
+    requires { Each (λ c. Offerable W.scale W.within table.now c capacity) candidates.now }
+    ensures { MatchOption result (Each (Misses W.scale table.now capacity goal) candidates.now) (λ k. FirstReaching W.scale table.now candidates.now capacity goal k) }
 {
     for (k, c) in candidates.iter().enumerate() {
         if reaches(c, table, capacity, goal) {
@@ -40,9 +40,9 @@ fn first_reaching<W: Worth>(
 
 // The position of the candidate that the first sequence of greatest worth begins with, or None where nothing fits.
 fn pick<W: Worth>(table: &[W], candidates: &[Candidate<W>], capacity: usize) -> Option<usize>
-    requires workable { Workable scale within candidates.now capacity (length table.now) }
-    requires filled { Filled scale table.now candidates.now (capacity + 1) }
-    ensures { result ≡ head_of (first scale candidates.now capacity).order }
+    requires workable { Workable W.scale W.within candidates.now capacity (length table.now) }
+    requires filled { Filled W.scale table.now candidates.now (capacity + 1) }
+    ensures { result ≡ head_of (first W.scale candidates.now capacity).order }
 {
     first_reaching(candidates, table, capacity, table[capacity])
 }
@@ -54,11 +54,11 @@ fn walk<W: Worth>(
     capacity: usize,
     order: &mut [usize],
 ) -> usize
-    requires choosable { Choosable scale within candidates.now capacity (length table.now) (length order.old) }
-    requires filled { Filled scale table.now candidates.now (capacity + 1) }
-    ensures computed { take result order.new ≡ (first scale candidates.now capacity).order }
-    ensures earliest { First scale candidates.now capacity (take result order.new) }
-    ensures total { most scale candidates.now capacity ≡ total_worth scale candidates.now (take result order.new) }
+    requires choosable { Choosable W.scale W.within candidates.now capacity (length table.now) (length order.old) }
+    requires filled { Filled W.scale table.now candidates.now (capacity + 1) }
+    ensures computed { take result order.new ≡ (first W.scale candidates.now capacity).order }
+    ensures earliest { First W.scale candidates.now capacity (take result order.new) }
+    ensures total { most W.scale candidates.now capacity ≡ total_worth W.scale candidates.now (take result order.new) }
     ensures short { result ≤ 64 }
     ensures beyond { drop result order.new ≡ drop result order.old }
 {
@@ -79,9 +79,9 @@ pub(crate) fn select<W: Worth>(
     table: &mut [W],
     order: &mut [usize],
 ) -> Selection<W>
-    requires choosable { Choosable scale within candidates.now capacity (length table.old) (length order.old) }
-    ensures selected { Selected scale candidates.now capacity result order.old order.new }
-    ensures tabled { Tabled scale candidates.now capacity table.old table.new }
+    requires choosable { Choosable W.scale W.within candidates.now capacity (length table.old) (length order.old) }
+    ensures selected { Selected W.scale candidates.now capacity result order.old order.new }
+    ensures tabled { Tabled W.scale candidates.now capacity table.old table.new }
 {
     let worth = fill(table, candidates, capacity);
     let count = walk(table, candidates, capacity, order);

@@ -11,8 +11,8 @@ use crate::worth::Worth;
 
 // The sum of a candidate's worth and of what the table has for the room that it leaves, or None where it does not fit.
 pub(crate) fn offer<W: Worth>(candidate: &Candidate<W>, table: &[W], capacity: usize) -> Option<W>
-    requires { Offerable scale within table.now candidate.now capacity }
-    ensures { MatchOption result (capacity < candidate.now.size) (λ sum. Offers scale table.now candidate.now capacity sum) }
+    requires { Offerable W.scale W.within table.now candidate.now capacity }
+    ensures { MatchOption result (capacity < candidate.now.size) (λ sum. Offers W.scale table.now candidate.now capacity sum) }
 {
     if candidate.size <= capacity {
         Some(candidate.worth.plus(table[capacity - candidate.size]))
@@ -23,7 +23,7 @@ pub(crate) fn offer<W: Worth>(candidate: &Candidate<W>, table: &[W], capacity: u
 
 // The larger of two worths.
 fn larger_of<W: Worth>(one: W, other: W) -> W
-    ensures { result ≡ larger scale one other }
+    ensures { result ≡ larger W.scale one other }
 {
     if one.less(other) { other } else { one }
 }
@@ -32,9 +32,9 @@ fn larger_of<W: Worth>(one: W, other: W) -> W
 fn greatest<W: Worth>(table: &[W], candidates: &[Candidate<W>], capacity: usize) -> W
     requires room { capacity ≤ length table.now }
     requires limit { capacity ≤ 3200 }
-    requires fair { Fair scale within 64 candidates.now }
-    requires filled { Filled scale table.now candidates.now capacity }
-    ensures { result ≡ most scale candidates.now capacity }
+    requires fair { Fair W.scale W.within 64 candidates.now }
+    requires filled { Filled W.scale table.now candidates.now capacity }
+    ensures { result ≡ most W.scale candidates.now capacity }
 {
     let mut best = W::nothing();
     for c in candidates {
@@ -47,9 +47,9 @@ fn greatest<W: Worth>(table: &[W], candidates: &[Candidate<W>], capacity: usize)
 
 // Writes the greatest worth at each capacity up to the one given, and answers the last.
 pub(crate) fn fill<W: Worth>(table: &mut [W], candidates: &[Candidate<W>], capacity: usize) -> W
-    requires workable { Workable scale within candidates.now capacity (length table.old) }
-    ensures greatest { GreatestWorth scale candidates.now capacity result }
-    ensures tabled { Tabled scale candidates.now capacity table.old table.new }
+    requires workable { Workable W.scale W.within candidates.now capacity (length table.old) }
+    ensures greatest { GreatestWorth W.scale candidates.now capacity result }
+    ensures tabled { Tabled W.scale candidates.now capacity table.old table.new }
 {
     for cap in 0..=capacity {
         table[cap] = greatest(table, candidates, cap);

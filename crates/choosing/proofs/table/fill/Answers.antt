@@ -5,7 +5,7 @@ use Rattle.choosing.proofs.Answering.{greatest_worth_lem}
 use Rattle.choosing.proofs.Offers.{fair_sound}
 use Rattle.choosing.proofs.Tables.{filled_more}
 use Rattle.choosing.proofs.table.fill.Goals as goal
-use Rattle.choosing.proofs.table.fill.Goals.{else-loop-cap-test, then-loop-cap-test+else·-cap-capacity}
+use Rattle.choosing.proofs.table.fill.Goals.{else-loop-cap-test, then-loop-cap-test+else-cap-capacity}
 
 pub loop-cap-preserved : goal.loop-cap-preserved
 loop-cap-preserved g c = (
@@ -22,7 +22,7 @@ returns g c =
     let v = c.index-table-capacity.result in
     let tabled : Tabled s cands capacity c.args.table.now c.loop-cap-test.table = elim c.loop-cap-test.branch [
       | else-loop-cap-test w ↦ subst (Tabled s cands capacity c.args.table.now) (sym w.table-is) (record { filled = λ k d h. c.loop-cap.invariant.0 k d (omega (arith, w.loop-cap-test.false)); beyond = c.loop-cap.invariant.1 })
-      | then-loop-cap-test+else·-cap-capacity w ↦
+      | then-loop-cap-test+else-cap-capacity w ↦
           let last = filled_more s c.loop-cap.table cands c.loop-cap.cap w.greatest.result (omega arith) c.loop-cap.invariant.0 w.greatest.ensures in
           subst (Tabled s cands capacity c.args.table.now) (sym w.table-is)
           (record { filled = λ k d h. last k d (omega arith); beyond = drop-set-lt (capacity + 1) c.loop-cap.table c.loop-cap.cap w.greatest.result (omega arith) ∙ c.loop-cap.invariant.1 })

@@ -8,25 +8,25 @@ use Rattle.orders.proofs.lines.item_line.Goals as goal
 
 pub returns-in_err-rest : goal.returns-in_err-rest
 returns-in_err-rest c =
-    let p = err_from_is_err_and c.from-residual.result c.from-residual.ensures.1 in
+    let p = err_from_is_err_and c.from_residual.result c.from_residual.ensures.1 in
     rw (p.1, p.2) (item_stops (here (word (codes "item ")) item_fields c.in_err-rest.ensures))
 
 pub returns-in_err-length : goal.returns-in_err-length
 returns-in_err-length c =
-    let p = err_from_is_err_and c.from-residual-in_err-length.result c.from-residual-in_err-length.ensures.1 in
+    let p = err_from_is_err_and c.from_residual-in_err-length.result c.from_residual-in_err-length.ensures.1 in
     rw (p.1, p.2) (item_stops (past_word (codes "item ") item_fields c.in_ok-rest.ensures
     (here (number Blank) from_width c.in_err-length.ensures)))
 
 pub returns-in_err-width : goal.returns-in_err-width
 returns-in_err-width c =
-    let p = err_from_is_err_and c.from-residual-in_err-width.result c.from-residual-in_err-width.ensures.1 in
+    let p = err_from_is_err_and c.from_residual-in_err-width.result c.from_residual-in_err-width.ensures.1 in
     rw (p.1, p.2) (item_stops (past_word (codes "item ") item_fields c.in_ok-rest.ensures
     (past_number Blank from_width c.in_ok-length.length c.in_ok-length.ensures
     (here (number Blank) from_turn c.in_err-width.ensures))))
 
 pub returns-in_err-may_turn : goal.returns-in_err-may_turn
 returns-in_err-may_turn c =
-    let p = err_from_is_err_and c.from-residual-in_err-may_turn.result c.from-residual-in_err-may_turn.ensures.1 in
+    let p = err_from_is_err_and c.from_residual-in_err-may_turn.result c.from_residual-in_err-may_turn.ensures.1 in
     rw (p.1, p.2) (item_stops (past_word (codes "item ") item_fields c.in_ok-rest.ensures
     (past_number Blank from_width c.in_ok-length.length c.in_ok-length.ensures
     (past_number Blank from_turn c.in_ok-width.width c.in_ok-width.ensures
@@ -34,7 +34,7 @@ returns-in_err-may_turn c =
 
 pub returns-in_err-value : goal.returns-in_err-value
 returns-in_err-value c =
-    let p = err_from_is_err_and c.from-residual-in_err-value.result c.from-residual-in_err-value.ensures.1 in
+    let p = err_from_is_err_and c.from_residual-in_err-value.result c.from_residual-in_err-value.ensures.1 in
     rw (p.1, p.2) (item_stops (past_word (codes "item ") item_fields c.in_ok-rest.ensures
     (past_number Blank from_width c.in_ok-length.length c.in_ok-length.ensures
     (past_number Blank from_turn c.in_ok-width.width c.in_ok-width.ensures
@@ -43,7 +43,7 @@ returns-in_err-value c =
 
 pub returns-in_err-ordered : goal.returns-in_err-ordered
 returns-in_err-ordered c =
-    let p = err_from_is_err_and c.from-residual-in_err-ordered.result c.from-residual-in_err-ordered.ensures.1 in
+    let p = err_from_is_err_and c.from_residual-in_err-ordered.result c.from_residual-in_err-ordered.ensures.1 in
     rw (p.1, p.2) (item_stops (past_word (codes "item ") item_fields c.in_ok-rest.ensures
     (past_number Blank from_width c.in_ok-length.length c.in_ok-length.ensures
     (past_number Blank from_turn c.in_ok-width.width c.in_ok-width.ensures

@@ -8,25 +8,25 @@ use Rattle.orders.proofs.lines.job_line.Goals as goal
 
 pub returns-in_err-rest : goal.returns-in_err-rest
 returns-in_err-rest c =
-    let p = err_from_is_err_and c.from-residual.result c.from-residual.ensures.1 in
+    let p = err_from_is_err_and c.from_residual.result c.from_residual.ensures.1 in
     rw (p.1, p.2) (job_stops (here (word (codes "job ")) job_fields c.in_err-rest.ensures))
 
 pub returns-in_err-job : goal.returns-in_err-job
 returns-in_err-job c =
-    let p = err_from_is_err_and c.from-residual-in_err-job.result c.from-residual-in_err-job.ensures.1 in
+    let p = err_from_is_err_and c.from_residual-in_err-job.result c.from_residual-in_err-job.ensures.1 in
     rw (p.1, p.2) (job_stops (past_word (codes "job ") job_fields c.in_ok-rest.ensures
     (here (number Blank) last_four c.in_err-job.ensures)))
 
 pub returns-in_err-length : goal.returns-in_err-length
 returns-in_err-length c =
-    let p = err_from_is_err_and c.from-residual-in_err-length.result c.from-residual-in_err-length.ensures.1 in
+    let p = err_from_is_err_and c.from_residual-in_err-length.result c.from_residual-in_err-length.ensures.1 in
     rw (p.1, p.2) (job_stops (past_word (codes "job ") job_fields c.in_ok-rest.ensures
     (past_number Blank last_four c.in_ok-job.job c.in_ok-job.ensures
     (here (number Blank) last_three c.in_err-length.ensures))))
 
 pub returns-in_err-width : goal.returns-in_err-width
 returns-in_err-width c =
-    let p = err_from_is_err_and c.from-residual-in_err-width.result c.from-residual-in_err-width.ensures.1 in
+    let p = err_from_is_err_and c.from_residual-in_err-width.result c.from_residual-in_err-width.ensures.1 in
     rw (p.1, p.2) (job_stops (past_word (codes "job ") job_fields c.in_ok-rest.ensures
     (past_number Blank last_four c.in_ok-job.job c.in_ok-job.ensures
     (past_number Blank last_three c.in_ok-length.length c.in_ok-length.ensures
@@ -34,7 +34,7 @@ returns-in_err-width c =
 
 pub returns-in_err-saw : goal.returns-in_err-saw
 returns-in_err-saw c =
-    let p = err_from_is_err_and c.from-residual-in_err-saw.result c.from-residual-in_err-saw.ensures.1 in
+    let p = err_from_is_err_and c.from_residual-in_err-saw.result c.from_residual-in_err-saw.ensures.1 in
     rw (p.1, p.2) (job_stops (past_word (codes "job ") job_fields c.in_ok-rest.ensures
     (past_number Blank last_four c.in_ok-job.job c.in_ok-job.ensures
     (past_number Blank last_three c.in_ok-length.length c.in_ok-length.ensures
@@ -43,7 +43,7 @@ returns-in_err-saw c =
 
 pub returns-in_err-trim : goal.returns-in_err-trim
 returns-in_err-trim c =
-    let p = err_from_is_err_and c.from-residual-in_err-trim.result c.from-residual-in_err-trim.ensures.1 in
+    let p = err_from_is_err_and c.from_residual-in_err-trim.result c.from_residual-in_err-trim.ensures.1 in
     rw (p.1, p.2) (job_stops (past_word (codes "job ") job_fields c.in_ok-rest.ensures
     (past_number Blank last_four c.in_ok-job.job c.in_ok-job.ensures
     (past_number Blank last_three c.in_ok-length.length c.in_ok-length.ensures

@@ -10,7 +10,7 @@ use Rattle.orders.proofs.read.read_lines.Goals as goal
 
 pub returns-in_err-head : goal.returns-in_err-head
 returns-in_err-head c =
-    let p = err_from_is_err_and c.from-residual.result c.from-residual.ensures.1 in
+    let p = err_from_is_err_and c.from_residual.result c.from_residual.ensures.1 in
     rw (p.1, p.2) (faulty_job c.in_err-head.ensures)
 
 pub loop-rest-smaller : goal.loop-rest-smaller
@@ -29,13 +29,13 @@ loop-rest-preserved c =
 pub returns-in_err-item : goal.returns-in_err-item
 returns-in_err-item c =
     let some : 0 < length c.loop-rest.rest.now = search rules in
-    let p = err_from_is_err_and c.from-residual-in_err-item.result c.from-residual-in_err-item.ensures.1 in
+    let p = err_from_is_err_and c.from_residual-in_err-item.result c.from_residual-in_err-item.ensures.1 in
     rw (p.1, p.2)
     (faulty_item c.in_ok-head.head c.in_ok-head.ensures.0 (vec_items c.loop-rest.items) c.loop-rest.invariant.0 c.args.text.now c.loop-rest.invariant.1 some c.in_err-item.ensures)
 
 pub returns-in_err-push : goal.returns-in_err-push
 returns-in_err-push c =
-    let p = err_from_is_err_and c.from-residual-in_err-push.result c.from-residual-in_err-push.ensures.1 in
+    let p = err_from_is_err_and c.from_residual-in_err-push.result c.from_residual-in_err-push.ensures.1 in
     rw (p.1, p.2) tt
 
 pub returns : goal.returns

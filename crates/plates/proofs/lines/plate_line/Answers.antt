@@ -8,25 +8,25 @@ use Rattle.plates.proofs.lines.plate_line.Goals as goal
 
 pub returns-in_err-rest : goal.returns-in_err-rest
 returns-in_err-rest c =
-    let p = err_from_is_err_and c.from-residual.result c.from-residual.ensures.1 in
+    let p = err_from_is_err_and c.from_residual.result c.from_residual.ensures.1 in
     rw (p.1, p.2) (plate_stops (here (word (codes "plate ")) plate_from_length c.in_err-rest.ensures))
 
 pub returns-in_err-length : goal.returns-in_err-length
 returns-in_err-length c =
-    let p = err_from_is_err_and c.from-residual-in_err-length.result c.from-residual-in_err-length.ensures.1 in
+    let p = err_from_is_err_and c.from_residual-in_err-length.result c.from_residual-in_err-length.ensures.1 in
     rw (p.1, p.2) (plate_stops (past_word (codes "plate ") plate_from_length c.in_ok-rest.ensures
     (here (number Blank) plate_from_width c.in_err-length.ensures)))
 
 pub returns-in_err-width : goal.returns-in_err-width
 returns-in_err-width c =
-    let p = err_from_is_err_and c.from-residual-in_err-width.result c.from-residual-in_err-width.ensures.1 in
+    let p = err_from_is_err_and c.from_residual-in_err-width.result c.from_residual-in_err-width.ensures.1 in
     rw (p.1, p.2) (plate_stops (past_word (codes "plate ") plate_from_length c.in_ok-rest.ensures
     (past_number Blank plate_from_width c.in_ok-length.length c.in_ok-length.ensures
     (here (number Blank) plate_from_saw c.in_err-width.ensures))))
 
 pub returns-in_err-saw : goal.returns-in_err-saw
 returns-in_err-saw c =
-    let p = err_from_is_err_and c.from-residual-in_err-saw.result c.from-residual-in_err-saw.ensures.1 in
+    let p = err_from_is_err_and c.from_residual-in_err-saw.result c.from_residual-in_err-saw.ensures.1 in
     rw (p.1, p.2) (plate_stops (past_word (codes "plate ") plate_from_length c.in_ok-rest.ensures
     (past_number Blank plate_from_width c.in_ok-length.length c.in_ok-length.ensures
     (past_number Blank plate_from_saw c.in_ok-width.width c.in_ok-width.ensures
@@ -34,7 +34,7 @@ returns-in_err-saw c =
 
 pub returns-in_err-stages : goal.returns-in_err-stages
 returns-in_err-stages c =
-    let p = err_from_is_err_and c.from-residual-in_err-stages.result c.from-residual-in_err-stages.ensures.1 in
+    let p = err_from_is_err_and c.from_residual-in_err-stages.result c.from_residual-in_err-stages.ensures.1 in
     rw (p.1, p.2) (plate_stops (past_word (codes "plate ") plate_from_length c.in_ok-rest.ensures
     (past_number Blank plate_from_width c.in_ok-length.length c.in_ok-length.ensures
     (past_number Blank plate_from_saw c.in_ok-width.width c.in_ok-width.ensures

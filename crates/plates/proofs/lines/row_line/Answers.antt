@@ -8,25 +8,25 @@ use Rattle.plates.proofs.lines.row_line.Goals as goal
 
 pub returns-in_err-kind : goal.returns-in_err-kind
 returns-in_err-kind c =
-    let p = err_from_is_err_and c.from-residual.result c.from-residual.ensures.1 in
+    let p = err_from_is_err_and c.from_residual.result c.from_residual.ensures.1 in
     rw (p.1, p.2) (row_stops (here (number Blank) row_from_turned c.in_err-kind.ensures))
 
 pub returns-in_err-turned : goal.returns-in_err-turned
 returns-in_err-turned c =
-    let p = err_from_is_err_and c.from-residual-in_err-turned.result c.from-residual-in_err-turned.ensures.1 in
+    let p = err_from_is_err_and c.from_residual-in_err-turned.result c.from_residual-in_err-turned.ensures.1 in
     rw (p.1, p.2) (row_stops (past_number Blank row_from_turned c.in_ok-kind.kind c.in_ok-kind.ensures
     (here (choice Turn Blank) row_from_segment c.in_err-turned.ensures)))
 
 pub returns-in_err-segment : goal.returns-in_err-segment
 returns-in_err-segment c =
-    let p = err_from_is_err_and c.from-residual-in_err-segment.result c.from-residual-in_err-segment.ensures.1 in
+    let p = err_from_is_err_and c.from_residual-in_err-segment.result c.from_residual-in_err-segment.ensures.1 in
     rw (p.1, p.2) (row_stops (past_number Blank row_from_turned c.in_ok-kind.kind c.in_ok-kind.ensures
     (past_choice Turn Blank row_from_segment c.in_ok-turned.turned c.in_ok-turned.ensures
     (here (number Blank) row_from_strip c.in_err-segment.ensures))))
 
 pub returns-in_err-strip : goal.returns-in_err-strip
 returns-in_err-strip c =
-    let p = err_from_is_err_and c.from-residual-in_err-strip.result c.from-residual-in_err-strip.ensures.1 in
+    let p = err_from_is_err_and c.from_residual-in_err-strip.result c.from_residual-in_err-strip.ensures.1 in
     rw (p.1, p.2) (row_stops (past_number Blank row_from_turned c.in_ok-kind.kind c.in_ok-kind.ensures
     (past_choice Turn Blank row_from_segment c.in_ok-turned.turned c.in_ok-turned.ensures
     (past_number Blank row_from_strip c.in_ok-segment.segment c.in_ok-segment.ensures
@@ -34,7 +34,7 @@ returns-in_err-strip c =
 
 pub returns-in_err-spare : goal.returns-in_err-spare
 returns-in_err-spare c =
-    let p = err_from_is_err_and c.from-residual-in_err-spare.result c.from-residual-in_err-spare.ensures.1 in
+    let p = err_from_is_err_and c.from_residual-in_err-spare.result c.from_residual-in_err-spare.ensures.1 in
     rw (p.1, p.2) (row_stops (past_number Blank row_from_turned c.in_ok-kind.kind c.in_ok-kind.ensures
     (past_choice Turn Blank row_from_segment c.in_ok-turned.turned c.in_ok-turned.ensures
     (past_number Blank row_from_strip c.in_ok-segment.segment c.in_ok-segment.ensures
@@ -43,7 +43,7 @@ returns-in_err-spare c =
 
 pub returns-in_err-x : goal.returns-in_err-x
 returns-in_err-x c =
-    let p = err_from_is_err_and c.from-residual-in_err-x.result c.from-residual-in_err-x.ensures.1 in
+    let p = err_from_is_err_and c.from_residual-in_err-x.result c.from_residual-in_err-x.ensures.1 in
     rw (p.1, p.2) (row_stops (past_number Blank row_from_turned c.in_ok-kind.kind c.in_ok-kind.ensures
     (past_choice Turn Blank row_from_segment c.in_ok-turned.turned c.in_ok-turned.ensures
     (past_number Blank row_from_strip c.in_ok-segment.segment c.in_ok-segment.ensures
@@ -53,7 +53,7 @@ returns-in_err-x c =
 
 pub returns-in_err-y : goal.returns-in_err-y
 returns-in_err-y c =
-    let p = err_from_is_err_and c.from-residual-in_err-y.result c.from-residual-in_err-y.ensures.1 in
+    let p = err_from_is_err_and c.from_residual-in_err-y.result c.from_residual-in_err-y.ensures.1 in
     rw (p.1, p.2) (row_stops (past_number Blank row_from_turned c.in_ok-kind.kind c.in_ok-kind.ensures
     (past_choice Turn Blank row_from_segment c.in_ok-turned.turned c.in_ok-turned.ensures
     (past_number Blank row_from_strip c.in_ok-segment.segment c.in_ok-segment.ensures

@@ -7,12 +7,12 @@ use Rattle.plates.proofs.read.read_plate.Goals as goal
 
 pub returns-in_err-kinds : goal.returns-in_err-kinds
 returns-in_err-kinds c =
-    let p = err_from_is_err_and c.from-residual.result c.from-residual.ensures.1 in
+    let p = err_from_is_err_and c.from_residual.result c.from_residual.ensures.1 in
     rw (p.1, p.2) (kinds_unread c.in_err-kinds.field-0.0 c.args.text.now c.in-Ok.rest.now c.in-Ok.setting c.in-Ok.ensures c.in_err-kinds.ensures)
 
 pub returns-in_err-rows : goal.returns-in_err-rows
 returns-in_err-rows c =
-    let p = err_from_is_err_and c.from-residual-in_err-rows.result c.from-residual-in_err-rows.ensures.1 in
+    let p = err_from_is_err_and c.from_residual-in_err-rows.result c.from_residual-in_err-rows.ensures.1 in
     let ks = c.in_ok-kinds.kinds in
     let read = c.in_ok-kinds.ensures in
     let n : c.len.result + 1 ≡ length (vec_items ks) + 1 = ap (λ z. z + 1) (c.len.ensures ∙ ks.ok.0) in

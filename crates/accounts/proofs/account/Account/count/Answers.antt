@@ -5,7 +5,12 @@ pub invariant_of-self : goal.invariant_of-self
 invariant_of-self c =
     let a = c.args.self.now in
     let counts = c.in-Ok.ensures.counts in
-    (a.few, ((a.full.0, counts.full), (a.numbers, (counts_bounded a c.args.rows.now c.args.runs c.in-Ok.counts counts, tt))))
+    record {
+      few = a.few;
+      full = (a.full.0, counts.full);
+      numbers = a.numbers;
+      bounded = counts_bounded a c.args.rows.now c.args.runs c.in-Ok.counts counts;
+    }
 
 pub returns-in-Ok : goal.returns-in-Ok
 returns-in-Ok c =

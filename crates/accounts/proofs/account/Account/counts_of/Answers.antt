@@ -21,7 +21,7 @@ returns-in_err-check_rows c =
     let a = c.args.self.now in
     let rows = c.args.rows.now in
     let e = c.in_err-check_rows.field-0.0 in
-    let p = err_from_is_err_and c.from-residual.result c.from-residual.ensures.1 in
+    let p = err_from_is_err_and c.from_residual.result c.from_residual.ensures.1 in
     rw (p.1, p.2) (record {
       answer = rows_refused (book a) rows c.args.runs e (subst (λ (ordered : List ℕ). RefusedBy (RowsCause (size ordered) rows c.args.runs) e) c.ordered.ensures c.in_err-check_rows.ensures.answer);
       limits = lawful_book a;
