@@ -10,8 +10,6 @@ use crate::read::read_order;
 use crate::unread::Unread;
 use layout::refusal::Refusal;
 use std::alloc::{AllocError, Global};
-use std::fmt;
-use std::fmt::Write;
 use text::report::{Report, bad};
 
 // How many pieces are ordered in all.
@@ -28,7 +26,7 @@ fn pieces_of_items(items: &[Item]) -> u64
 }
 
 // The first half of the line that restates an order.
-fn push_head(out: &mut String, head: Head) -> fmt::Result
+fn push_head(out: &mut String, head: Head) -> Result<(), AllocError>
     ensures { Appended (is_ok result) (string_bytes out.old) (head_words head) (string_bytes out.new) }
 {
     let Head {
@@ -45,14 +43,14 @@ fn push_head(out: &mut String, head: Head) -> fmt::Result
 }
 
 // And the second half.
-fn push_counts(out: &mut String, lines: usize, pieces: u64) -> fmt::Result
+fn push_counts(out: &mut String, lines: usize, pieces: u64) -> Result<(), AllocError>
     ensures { Appended (is_ok result) (string_bytes out.old) (count_words lines pieces) (string_bytes out.new) }
 {
     write!(out, " lines {lines} pieces {pieces}\n")
 }
 
 // The order on one line.
-fn push_order(out: &mut String, head: Head, items: &[Item]) -> fmt::Result
+fn push_order(out: &mut String, head: Head, items: &[Item]) -> Result<(), AllocError>
     requires few { Few items.now }
     requires short { All ShortItem items.now }
     ensures { Appended (is_ok result) (string_bytes out.old) (order_line head items.now) (string_bytes out.new) }
@@ -68,13 +66,11 @@ pub fn judge(heap: Global, text: &[u8]) -> Result<Report, AllocError>
     match read_order(heap, text) {
         Ok(order) => {
             let mut printed = String::new(heap);
-            match push_order(&mut printed, order.head, order.items.as_slice()) {
-                Ok(()) => Ok(Report {
-                    printed,
-                    accepted: true,
-                }),
-                Err(_) => Err(AllocError),
-            }
+            push_order(&mut printed, order.head, order.items.as_slice())?;
+            Ok(Report {
+                printed,
+                accepted: true,
+            })
         }
         Err(unread) => match unread {
             Unread::Fault(place) => {

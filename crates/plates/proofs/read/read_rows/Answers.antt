@@ -15,12 +15,12 @@ pub loop-rest-preserved : goal.loop-rest-preserved
 loop-rest-preserved c =
     let old = vec_items c.loop-rest.rows in
     let new = c.in-Ok.row in
-    let pushed : vec_items c.push.new.self ≡ old ++ (new ∷ []) = c.in_ok-push.ensures.items in
+    let pushed : vec_items c.push.new.self ≡ old ++ (new ∷ []) = c.in_ok-push-in-Ok.ensures.items in
     let less = shorter line_of_row row_some new c.loop-rest.rest.now c.in-Ok.after.now c.in-Ok.ensures.1 in (
       subst (All ShortRow) (sym pushed) (All-push ShortRow old new c.loop-rest.invariant.0 c.in-Ok.ensures.0),
       lines_push line_of_row old new c.args.text.now c.loop-rest.rest.now c.in-Ok.after.now c.loop-rest.invariant.1 c.in-Ok.ensures.1
           ∙ ap (λ z. row_lines z ++ c.in-Ok.after.now) (sym pushed),
-      omega (arith, c.loop-rest.invariant.2, less, c.in_ok-push.ensures.len),
+      omega (arith, c.loop-rest.invariant.2, less, c.in_ok-push-in-Ok.ensures.len),
     )
 
 pub returns : goal.returns
