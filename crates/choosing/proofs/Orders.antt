@@ -1,5 +1,5 @@
 -- What the laws of a worth give of its order.
-use Rattle.std.proofs.Common.{◌≡◌, Bool, true, false, ◌⊎◌, sym, refl, subst, ⊎_elim}
+use Rattle.std.proofs.Common.{◌≡◌, Bool, true, false, sym, refl, subst, ⊎_elim}
 use Rattle.std.proofs.lemmas.Bool.{cases_Bool, both_ways}
 use Rattle.choosing.specs.Worth.{Scale, Laws}
 

@@ -13,7 +13,7 @@ use Rattle.choosing.specs.Numbers.{plain_laws, plain_limits}
 use Rattle.choosing.proofs.Offers.{most_within}
 use Rattle.patterns.specs.declared.Oriented.{Oriented}
 use Rattle.patterns.specs.Counting.{Counts}
-use Rattle.patterns.specs.Strips.{Strip, by_value, by_across, no_wider, general_strip, uniform_strip, times}
+use Rattle.patterns.specs.Strips.{by_value, by_across, no_wider, uniform_strip, times}
 use Rattle.patterns.proofs.Lists.{all_each}
 use Rattle.patterns.proofs.Candidates.{Fine, all_no_wider, strip_pieces, strips_fine, uniform_fine, times_is}
 use Rattle.engines.specs.declared.segment.Filling.{Filling}

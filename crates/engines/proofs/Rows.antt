@@ -1,11 +1,11 @@
 -- Rows that are laid one after the other.
-use Rattle.std.proofs.Common.{◌≡◌, ℕ, suc, ◌+◌, ◌<◌, ◌≤◌, List, [], ◌∷◌, ◌++◌, map, length, get_or, take, drop, set, sym, refl, ap, ◌∙◌, subst, append_assoc, arith}
+use Rattle.std.proofs.Common.{◌≡◌, ℕ, suc, ◌+◌, ◌<◌, ◌≤◌, List, [], ◌∷◌, ◌++◌, length, get_or, take, drop, set, sym, refl, ap, ◌∙◌, subst, append_assoc, arith}
 use Rattle.std.specs.List.{AllByRecursion as All}
 use Rattle.std.proofs.lemmas.List.{drop_more, at_drop_more, at_drop_all, append-nil, length-append}
 use Rattle.layout.specs.declared.row.Row.{Row}
 use Rattle.patterns.specs.declared.Oriented.{Oriented}
 use Rattle.patterns.specs.Numbers.{no_piece}
-use Rattle.patterns.specs.Strips.{Strip, row, at, rows_of_strip, lay}
+use Rattle.patterns.specs.Strips.{row, at, rows_of_strip}
 use Rattle.engines.specs.declared.segment.Corner.{Corner}
 use Rattle.engines.specs.declared.segment.Segment.{Segment}
 use Rattle.engines.specs.Fillings.{strip_in}

@@ -1,5 +1,5 @@
 -- Lists of kinds, and what making a task asks of them.
-use Rattle.std.proofs.Common.{◌≡◌, ℕ, ◌≤◌, List, ◌++◌, length, take, drop, refl, ap, ◌∙◌, inl, inr, arith}
+use Rattle.std.proofs.Common.{◌≡◌, ◌≤◌, List, ◌++◌, length, take, drop, refl, ap, ◌∙◌, inl, inr, arith}
 use Rattle.std.proofs.lemmas.List.{take_at, length-append, length-drop}
 use Rattle.layout.specs.declared.panel.Kind.{Kind}
 use Rattle.layout.specs.Limits.{EachKind, SomeKind, LawfulSides, LawfulValue, BadSides, BadValue}

@@ -1,12 +1,12 @@
 -- The two lines of an order text as parts.
-use Rattle.std.proofs.Common.{◌≡◌, ℕ, List, [], ◌∷◌, ◌++◌, codes, decimal, sym, refl, ap, ◌∙◌, append_assoc, append-nil}
+use Rattle.std.proofs.Common.{◌≡◌, ℕ, List, [], ◌∷◌, ◌++◌, codes, decimal, refl, ap, ◌∙◌, append_assoc}
 use Rattle.text.specs.declared.fields.End.TheVariants.{Blank, Line}
 use Rattle.text.specs.Texts.{Stops}
 use Rattle.text.specs.Fields.{letter}
 use Rattle.text.specs.declared.fields.Letters.TheVariants.{Turn}
 use Rattle.text.proofs.Codes.{Code, stops_same}
 use Rattle.text.proofs.Parts.{Part, word, number, choice, Parts, parts_code, with_number, with_choice, off_word, off_number, off_choice}
-use Rattle.orders.specs.Lines.{line_of_job, line_of_item, ShortHead, ShortItem, JobLine, ItemLine}
+use Rattle.orders.specs.Lines.{line_of_job, line_of_item, JobLine, ItemLine}
 use Rattle.orders.specs.declared.order.Head.{Head}
 use Rattle.orders.specs.declared.order.Item.{Item}
 

@@ -1,5 +1,5 @@
 -- From what is left of a text to the place of its fault.
-use Rattle.std.proofs.Common.{◌≡◌, ℕ, suc, ◌+◌, ◌-◌, ◌<◌, ◌≤◌, min, List, [], ◌∷◌, ◌++◌, length, get_or, take, drop, sym, refl, ap, ◌∙◌, subst, append_assoc, append-nil, add-one, arith, length-append, take-append-drop, length-take}
+use Rattle.std.proofs.Common.{◌≡◌, ℕ, suc, ◌+◌, ◌-◌, ◌<◌, ◌≤◌, min, List, [], ◌∷◌, ◌++◌, length, take, drop, sym, refl, ap, ◌∙◌, subst, append_assoc, append-nil, add-one, arith, length-append, take-append-drop, length-take}
 use Rattle.std.proofs.lemmas.List.{take_all, nil_from_length}
 use Rattle.text.specs.Texts.{Begins}
 use Rattle.orders.specs.Orders.{Lawful, LeftAtFault, FaultAfter}

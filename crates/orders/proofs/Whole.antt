@@ -1,14 +1,14 @@
 -- A whole text: the job line and then item lines.
-use Rattle.std.proofs.Common.{◌≡◌, ℕ, suc, ◌+◌, ◌-◌, ◌<◌, ◌≤◌, min, List, [], ◌∷◌, ◌++◌, length, take, drop, sym, refl, ap, ◌∙◌, subst, append_assoc, append-nil, add-one, arith, length-append, take-append-drop, length-take}
+use Rattle.std.proofs.Common.{◌≡◌, ℕ, ◌<◌, List, [], ◌∷◌, ◌++◌, length, sym, refl, ap, ◌∙◌, subst, append_assoc, append-nil, arith, length-append}
 use Rattle.std.specs.List.{AllByRecursion as All}
 use Rattle.std.proofs.ByRecursion.{All-append, All-push}
-use Rattle.std.proofs.lemmas.List.{take_all, nil_from_length}
+use Rattle.std.proofs.lemmas.List.{nil_from_length}
 use Rattle.orders.specs.declared.order.Head.{Head}
 use Rattle.orders.specs.declared.order.Item.{Item}
-use Rattle.text.specs.Texts.{Begins, Stops}
+use Rattle.text.specs.Texts.{Stops}
 use Rattle.orders.specs.Lines.{line_of_job, line_of_item, ShortHead, ShortItem, JobLine, ItemLine}
-use Rattle.orders.specs.Orders.{item_lines, text_of, TextOf, Lawful, LeftAtFault}
-use Rattle.text.proofs.Codes.{Then, Code, same_front, push_rest, stops_first, not_whole}
+use Rattle.orders.specs.Orders.{item_lines, text_of, Lawful, LeftAtFault}
+use Rattle.text.proofs.Codes.{Then, same_front, push_rest, stops_first, not_whole}
 use Rattle.orders.proofs.LineParts.{job_code, item_code}
 
 abbrev pub Items : List ℕ → Type 0

@@ -1,5 +1,5 @@
 -- The named patterns in the words of the rules: they are so, and no other list is.
-use Rattle.std.proofs.Common.{◌≡◌, ℕ, ◌-◌, ◌<◌, ◌≤◌, leb, List, [], ◌∷◌, map, length, replicate, sym, refl, ap, ◌∙◌, subst, inl, inr, mul_comm, le-div_iff_mul-le, arith}
+use Rattle.std.proofs.Common.{◌≡◌, ℕ, ◌-◌, ◌<◌, ◌≤◌, leb, List, [], ◌∷◌, map, replicate, sym, refl, ap, ◌∙◌, subst, inl, inr, mul_comm, le-div_iff_mul-le, arith}
 use Rattle.std.specs.List.{AllByRecursion as All}
 use Rattle.std.proofs.lemmas.Bool.{ltb-true, ltb-false, cases_order}
 use Rattle.layout.specs.declared.row.Row.{Row}

@@ -1,12 +1,9 @@
 -- How the lines of a plate text begin: none is empty, a kind line begins with `k`, a row line with a digit.
-use Rattle.std.proofs.Common.{◌≡◌, ℕ, ◌+◌, ◌<◌, ◌≤◌, List, [], ◌∷◌, ◌++◌, length, decimal, sym, refl, ap, ◌∙◌, subst, append_assoc, arith, length-append}
-use Rattle.std.specs.Int.{IsInRange}
-use Rattle.text.proofs.Codes.{head_same}
+use Rattle.std.proofs.Common.{◌≡◌, ℕ, ◌<◌, List, ◌++◌, length, decimal, sym, ◌∙◌, append_assoc, arith, length-append}
 use Rattle.text.proofs.Numerals.{decimal_front}
-use Rattle.plates.specs.declared.plate.Setting.{Setting}
 use Rattle.plates.specs.declared.plate.KindEntry.{KindEntry}
 use Rattle.plates.specs.declared.plate.RowEntry.{RowEntry}
-use Rattle.plates.specs.Lines.{line_of_plate, line_of_kind, line_of_row, ShortRow}
+use Rattle.plates.specs.Lines.{line_of_kind, line_of_row, ShortRow}
 use Rattle.plates.specs.Replies.{Kindly}
 
 pub kind_some : (k : KindEntry) → 0 < length (line_of_kind k)

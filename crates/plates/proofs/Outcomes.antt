@@ -1,5 +1,5 @@
 -- From what an inspection answered to what is printed.
-use Rattle.std.proofs.Common.{◌≡◌, ℕ, Bool, true, false, List, IfOk, Ok, Err, Result, sym, subst}
+use Rattle.std.proofs.Common.{ℕ, Bool, List, IfOk, Ok, Err, Result, sym, subst}
 use Rattle.layout.specs.Refusals.{Answered}
 use Rattle.layout.specs.declared.refusal.Refusal.{Refusal}
 use Rattle.inspection.specs.Verdicts.{Plate, number_of, InspectCause, Finding}

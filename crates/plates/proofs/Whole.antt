@@ -1,10 +1,9 @@
 -- Whole plate texts: read in one way, and with one first bad line.
-use Rattle.std.proofs.Common.{◌≡◌, ℕ, ◌+◌, ◌<◌, ◌≤◌, ◌⊎◌, List, [], ◌∷◌, ◌++◌, length, sym, refl, ap, ◌∙◌, subst, inl, inr, append_assoc, append-nil, arith, length-append}
+use Rattle.std.proofs.Common.{◌≡◌, ℕ, ◌+◌, ◌<◌, List, [], ◌∷◌, ◌++◌, length, sym, refl, ap, ◌∙◌, subst, inl, inr, append_assoc, append-nil, arith, length-append}
 use Rattle.std.specs.List.{AllByRecursion as All}
-use Rattle.text.specs.Fields.{lines}
 use Rattle.text.specs.Texts.{Stops}
-use Rattle.text.proofs.Codes.{Cut, cuts, no_front, nil_not_cons}
-use Rattle.text.proofs.Many.{Peeled, peel}
+use Rattle.text.proofs.Codes.{Cut, cuts, no_front}
+use Rattle.text.proofs.Many.{peel}
 use Rattle.plates.specs.declared.plate.Setting.{Setting}
 use Rattle.plates.specs.declared.plate.KindEntry.{KindEntry}
 use Rattle.plates.specs.declared.plate.RowEntry.{RowEntry}

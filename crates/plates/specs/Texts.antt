@@ -1,5 +1,5 @@
 -- Plate texts, and the first line of a text that is not as it must be.
-use Rattle.std.specs.Prelude.{◌≡◌, ℕ, ◌+◌, ◌⊎◌, List, [], ◌∷◌, ◌++◌, length}
+use Rattle.std.specs.Prelude.{◌≡◌, ℕ, ◌+◌, ◌⊎◌, List, [], ◌++◌, length}
 use Rattle.std.specs.List.{AllByRecursion as All}
 use Rattle.text.specs.Fields.{lines}
 use Rattle.plates.specs.declared.plate.Setting.{Setting}

@@ -1,5 +1,5 @@
 -- What a layer answers and leaves in the rows, from what the rule below answered. The lemmas are over plain lists, so that a layer's proof cites them.
-use Rattle.std.specs.Prelude.{◌≡◌, ℕ, ◌+◌, ◌-◌, ◌<◌, ◌≤◌, cond, List, ◌++◌, map, length as size, take, drop, replicate, nat_lt}
+use Rattle.std.specs.Prelude.{◌≡◌, ℕ, ◌-◌, ◌<◌, ◌≤◌, cond, List, ◌++◌, map, length as size, take, drop, replicate, nat_lt}
 use Rattle.std.proofs.Common.{sym, ap, ◌∙◌, inl, inr, arith, lt-ltb, le-ltb}
 use Rattle.std.proofs.lemmas.List.{length-map, length-append, length-replicate, length-take, take_at, drop_at, append_assoc}
 use Rattle.layout.specs.declared.refusal.Refusal.{Refusal}

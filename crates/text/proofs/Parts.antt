@@ -1,5 +1,5 @@
 -- A line as parts, one after another: each a set of texts of which none begins another, so that a text is cut into them in one way.
-use Rattle.std.proofs.Common.{◌≡◌, ℕ, Bool, true, false, List, [], ◌∷◌, ◌++◌, decimal, sym, refl, ap, ◌∙◌, append-nil, arith, lit<}
+use Rattle.std.proofs.Common.{◌≡◌, ℕ, Bool, true, false, List, [], ◌∷◌, ◌++◌, decimal, sym, refl, ap, ◌∙◌, arith, lit<}
 use Rattle.std.proofs.lemmas.Fmt.{decimal_injective}
 use Rattle.text.specs.declared.fields.End.{End}
 use Rattle.text.specs.declared.fields.End.TheVariants.{Blank, Line}

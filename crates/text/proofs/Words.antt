@@ -1,6 +1,6 @@
 -- Where a fixed word and a letter stop.
-use Rattle.std.proofs.Common.{◌≡◌, ℕ, suc, ◌+◌, ◌<◌, Bool, true, false, List, [], ◌∷◌, ◌++◌, length, get_or, take, drop, sym, refl, ap, ◌∙◌, subst, append_assoc, append-nil, arith, take-append-drop, drop-cons}
-use Rattle.text.specs.Texts.{Begins, Stops}
+use Rattle.std.proofs.Common.{◌≡◌, ℕ, suc, ◌<◌, true, false, List, [], ◌∷◌, ◌++◌, length, get_or, take, drop, sym, refl, ap, ◌∙◌, append-nil, take-append-drop, drop-cons}
+use Rattle.text.specs.Texts.{Stops}
 use Rattle.text.specs.declared.fields.Letters.{Letters}
 use Rattle.text.specs.Fields.{Word, Letter, letter}
 use Rattle.text.proofs.Codes.{Code, head_same, tail_same, same_rest, push_rest}

@@ -1,4 +1,4 @@
-use Rattle.std.proofs.Common.{◌≡◌, ℕ, suc, ◌+◌, get_or, sym, ap, ◌∙◌, arith}
+use Rattle.std.proofs.Common.{◌≡◌, ℕ, suc, ◌+◌, get_or, ap, ◌∙◌, arith}
 use Rattle.engines.specs.declared.dividing.Division.{Division}
 use Rattle.engines.specs.Positions.{divided_of, better_division, division_below}
 use Rattle.engines.proofs.dividing.dividing.Goals as goal

@@ -1,4 +1,4 @@
-use Rattle.std.proofs.Common.{◌≡◌, ◌-◌, List, length, take, ap, subst, arith}
+use Rattle.std.proofs.Common.{List, length, ap, subst, arith}
 use Rattle.patterns.specs.declared.Oriented.{Oriented}
 use Rattle.patterns.specs.Strips.{by_value, general_strip, rows_of_strip}
 use Rattle.engines.specs.Writing.{Written, sum_along}

@@ -1,4 +1,4 @@
-use Rattle.std.proofs.Common.{◌+◌, ◌++◌, length, get_or, take, drop, set, ap, ◌∙◌, arith, rules}
+use Rattle.std.proofs.Common.{◌+◌, ◌++◌, get_or, take, drop, set, ap, ◌∙◌, arith, rules}
 use Rattle.layout.specs.declared.row.Row.{Row}
 use Rattle.patterns.specs.Numbers.{no_piece}
 use Rattle.patterns.specs.Strips.{rows_of_strip}

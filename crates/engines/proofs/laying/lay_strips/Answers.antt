@@ -1,4 +1,4 @@
-use Rattle.std.proofs.Common.{◌≡◌, ◌+◌, ◌<◌, ◌≤◌, ◌++◌, length, get_or, take, drop, sym, ap, ◌∙◌, subst, arith, rules}
+use Rattle.std.proofs.Common.{◌≡◌, ◌+◌, ◌++◌, length, get_or, take, drop, ap, ◌∙◌, arith, rules}
 use Rattle.std.proofs.ByRecursion.{All-get_or}
 use Rattle.patterns.specs.Counting.{Counts}
 use Rattle.patterns.specs.Numbers.{no_piece}

@@ -1,4 +1,4 @@
-use Rattle.std.proofs.Common.{◌≡◌, length, get_or, take, filter, ap, ◌∙◌, arith}
+use Rattle.std.proofs.Common.{take, filter, ap, ◌∙◌, arith}
 use Rattle.std.proofs.lemmas.List.{take_all}
 use Rattle.patterns.specs.Numbers.{inside, no_piece}
 use Rattle.engines.proofs.Lists.{keep_more}

@@ -1,7 +1,6 @@
-use Rattle.std.proofs.Common.{◌≡◌, ℕ, ◌+◌, ◌-◌, ◌≤◌, List, map, length, take, replicate, sym, ap, ◌∙◌, subst, arith}
+use Rattle.std.proofs.Common.{◌≡◌, ℕ, ◌-◌, ◌≤◌, List, map, length, take, replicate, sym, ap, ◌∙◌, subst, arith}
 use Rattle.std.specs.List.{AllByRecursion as All}
 use Rattle.std.proofs.lemmas.List.{length-take-le}
-use Rattle.choosing.specs.Calls.{Selected}
 use Rattle.choosing.specs.Choice.{first, most}
 use Rattle.choosing.specs.Plain.{plain}
 use Rattle.choosing.specs.declared.Candidate.{Candidate}

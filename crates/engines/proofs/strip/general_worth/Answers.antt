@@ -1,4 +1,4 @@
-use Rattle.std.proofs.Common.{◌≡◌, ◌-◌, length, take, ap, ◌∙◌, arith}
+use Rattle.std.proofs.Common.{◌-◌, length, take, ap, ◌∙◌, arith}
 use Rattle.choosing.specs.Choice.{most}
 use Rattle.choosing.specs.Plain.{plain}
 use Rattle.patterns.proofs.Candidates.{strip_pieces}

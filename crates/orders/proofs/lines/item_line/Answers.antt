@@ -1,7 +1,7 @@
 use Rattle.std.proofs.Common.{[], codes}
 use Rattle.std.proofs.lemmas.Result.{err_from_is_err_and}
 use Rattle.text.specs.declared.fields.End.TheVariants.{Blank, Line}
-use Rattle.text.specs.declared.fields.Letters.TheVariants.{Turn, Spare}
+use Rattle.text.specs.declared.fields.Letters.TheVariants.{Turn}
 use Rattle.text.proofs.Parts.{word, number, choice, here, past_word, past_number, past_choice}
 use Rattle.orders.proofs.LineParts.{item_stops, item_joined, from_turn, from_width, item_fields, last_one, last_two}
 use Rattle.orders.proofs.lines.item_line.Goals as goal

@@ -1,8 +1,7 @@
 use Rattle.std.proofs.Common.{[], codes}
 use Rattle.std.proofs.lemmas.Result.{err_from_is_err_and}
 use Rattle.text.specs.declared.fields.End.TheVariants.{Blank, Line}
-use Rattle.text.specs.declared.fields.Letters.TheVariants.{Turn, Spare}
-use Rattle.text.proofs.Parts.{word, number, choice, here, past_word, past_number, past_choice}
+use Rattle.text.proofs.Parts.{word, number, here, past_word, past_number}
 use Rattle.orders.proofs.LineParts.{job_stops, job_joined, job_fields, last_four, last_one, last_three, last_two}
 use Rattle.orders.proofs.lines.job_line.Goals as goal
 

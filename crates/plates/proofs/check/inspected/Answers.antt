@@ -1,9 +1,8 @@
-use Rattle.std.proofs.Common.{◌≡◌, ℕ, List, map, vec_items, string_bytes, ap, ◌∙◌, subst}
+use Rattle.std.proofs.Common.{◌≡◌, map, vec_items, string_bytes, ap, ◌∙◌, subst}
 use Rattle.std.proofs.lemmas.Result.{IfOk-weaker}
-use Rattle.layout.specs.Refusals.{Answered}
-use Rattle.inspection.specs.Verdicts.{Plate, plate_of, number_of, InspectCause, Finding}
-use Rattle.plates.specs.Fits.{fitted, fitted_panel, fitted_row, wide_field, narrow_field}
-use Rattle.plates.specs.Checked.{Told, Outcome}
+use Rattle.inspection.specs.Verdicts.{plate_of}
+use Rattle.plates.specs.Fits.{fitted, fitted_panel, fitted_row}
+use Rattle.plates.specs.Checked.{Outcome}
 use Rattle.plates.proofs.Outcomes.{outcome}
 use Rattle.plates.proofs.check.inspected.Goals as goal
 

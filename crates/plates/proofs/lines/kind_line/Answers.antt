@@ -1,8 +1,8 @@
 use Rattle.std.proofs.Common.{[], codes}
 use Rattle.std.proofs.lemmas.Result.{err_from_is_err_and}
 use Rattle.text.specs.declared.fields.End.TheVariants.{Blank, Line}
-use Rattle.text.specs.declared.fields.Letters.TheVariants.{Turn, Spare}
-use Rattle.text.proofs.Parts.{word, number, choice, here, past_word, past_number, past_choice}
+use Rattle.text.specs.declared.fields.Letters.TheVariants.{Turn}
+use Rattle.text.proofs.Parts.{word, number, choice, here, past_word, past_number}
 use Rattle.plates.proofs.LineParts.{kind_stops, kind_joined, kind_from_length, kind_from_may_turn, kind_from_width}
 use Rattle.plates.proofs.lines.kind_line.Goals as goal
 

@@ -1,8 +1,7 @@
 use Rattle.std.proofs.Common.{[], codes}
 use Rattle.std.proofs.lemmas.Result.{err_from_is_err_and}
 use Rattle.text.specs.declared.fields.End.TheVariants.{Blank, Line}
-use Rattle.text.specs.declared.fields.Letters.TheVariants.{Turn, Spare}
-use Rattle.text.proofs.Parts.{word, number, choice, here, past_word, past_number, past_choice}
+use Rattle.text.proofs.Parts.{word, number, here, past_word, past_number}
 use Rattle.plates.proofs.LineParts.{plate_stops, plate_joined, plate_from_length, plate_from_saw, plate_from_stages, plate_from_width}
 use Rattle.plates.proofs.lines.plate_line.Goals as goal
 

@@ -1,8 +1,8 @@
-use Rattle.std.proofs.Common.{[], codes}
+use Rattle.std.proofs.Common.{[]}
 use Rattle.std.proofs.lemmas.Result.{err_from_is_err_and}
 use Rattle.text.specs.declared.fields.End.TheVariants.{Blank, Line}
 use Rattle.text.specs.declared.fields.Letters.TheVariants.{Turn, Spare}
-use Rattle.text.proofs.Parts.{word, number, choice, here, past_word, past_number, past_choice}
+use Rattle.text.proofs.Parts.{number, choice, here, past_number, past_choice}
 use Rattle.plates.proofs.LineParts.{row_stops, row_joined, row_from_segment, row_from_spare, row_from_strip, row_from_turned, row_from_x, row_from_y}
 use Rattle.plates.proofs.lines.row_line.Goals as goal
 

@@ -1,7 +1,7 @@
-use Rattle.std.proofs.Common.{◌≡◌, ℕ, ◌+◌, ◌*◌, ◌<◌, List, [], ◌∷◌, ◌++◌, decimal, sym, refl, ap, ◌∙◌, add-one, arith}
+use Rattle.std.proofs.Common.{◌≡◌, ℕ, ◌<◌, ◌∷◌, ◌++◌, decimal, sym, ap, ◌∙◌, add-one, arith}
 use Rattle.text.specs.Fields.{mark}
-use Rattle.text.proofs.Codes.{head_same, nil_not_cons}
-use Rattle.text.proofs.Numerals.{written_some, read_small, number_stops, read_more, Bad, bad_at}
+use Rattle.text.proofs.Codes.{nil_not_cons}
+use Rattle.text.proofs.Numerals.{written_some, read_small, number_stops, read_more, bad_at}
 use Rattle.text.proofs.fields.number.Goals as goal
 use Rattle.text.proofs.fields.number.Goals.{else-digits-gt0-via-then-digits-gt0+else-byte-last, else-digits-gt0-via-else-digits-gt0}
 

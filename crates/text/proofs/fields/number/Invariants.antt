@@ -1,4 +1,4 @@
-use Rattle.std.proofs.Common.{◌≡◌, ◌≤◌, ◌++◌, length}
+use Rattle.std.proofs.Common.{length}
 use Rattle.text.proofs.Numerals.{Read}
 use Rattle.text.proofs.fields.number.Given as goal
 

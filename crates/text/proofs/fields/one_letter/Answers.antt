@@ -1,4 +1,4 @@
-use Rattle.std.proofs.Common.{◌≡◌, sym, refl, ap, ◌∙◌}
+use Rattle.std.proofs.Common.{sym, ◌∙◌}
 use Rattle.text.proofs.Codes.{head_same, nil_not_cons}
 use Rattle.text.proofs.Words.{letter_stops}
 use Rattle.text.proofs.fields.one_letter.Goals as goal

@@ -1,4 +1,4 @@
-use Rattle.std.proofs.Common.{◌≡◌, sym, ap, subst}
+use Rattle.std.proofs.Common.{sym, ap, subst}
 use Rattle.layout.specs.Limits.{EachKind, LawfulSides, LawfulValue}
 use Rattle.layout.specs.Tasks.{given}
 use Rattle.layout.proofs.KindLists.{copied_front, copied_long}

@@ -1,4 +1,4 @@
-use Rattle.std.proofs.Common.{◌≡◌, ◌-◌, ◌≤◌, min, length, sym, ap, ◌∙◌, subst, arith}
+use Rattle.std.proofs.Common.{◌≡◌, min, length, sym, ap, ◌∙◌, subst, arith}
 use Rattle.layout.specs.Models.{model}
 use Rattle.layout.specs.Tasks.{Model, WithinLimits, WithinReach, worth}
 use Rattle.layout.specs.Variants.{widened_model}
