@@ -1,6 +1,6 @@
 -- What the chooser chooses, in numbers: pieces for a strip, and strips for a segment.
 use Rattle.std.proofs.Common.{◌≡◌, ℕ, ◌<◌, ◌≤◌, List, [], ◌∷◌, map, length, refl, ap, arith}
-use Rattle.std.specs.List.{AllByRecursion as All}
+use Rattle.std.specs.List.{AllByRecursion}
 use Rattle.std.proofs.lemmas.List.{length-map}
 use Rattle.choosing.specs.Choice.{first}
 use Rattle.choosing.specs.Plain.{plain}
@@ -28,16 +28,16 @@ pub strip_across : (f : Filling) (l : ℕ) (os : List Oriented) (q : Oriented) �
 strip_across General l os q = refl
 strip_across Uniform l os q = refl
 
-positions : {A : Type 0} (f : A → Candidate ℕ) (xs : List A) (cap : ℕ) → All Fine (map f xs) → All (λ (k : ℕ). k < length xs) (first plain (map f xs) cap).order
+positions : {A : Type 0} (f : A → Candidate ℕ) (xs : List A) (cap : ℕ) → AllByRecursion Fine (map f xs) → AllByRecursion (λ (k : ℕ). k < length xs) (first plain (map f xs) cap).order
 positions f xs cap fine = known_all f xs (first plain (map f xs) cap).order (right_best plain_laws (map f xs) (all_sound (map f xs) fine) cap cap (omega arith)).feasible.known
 
 module _ (l w : ℕ) (os : List Oriented) (stock : Stock l w os) where
   -- ---- the pieces of a strip
   module _ (h : ℕ) where
-    fine : All Fine (strip_pieces os h)
+    fine : AllByRecursion Fine (strip_pieces os h)
     fine = pieces_fine os (stock_sizeable l w os stock) h
 
-    pub pieces_known : All (Known (no_wider h os)) (first plain (strip_pieces os h) l).order
+    pub pieces_known : AllByRecursion (Known (no_wider h os)) (first plain (strip_pieces os h) l).order
     pieces_known = positions (by_along by_value) (no_wider h os) l fine
 
   pub pieces_along : (q : Oriented) → sum_along (general_strip by_value l os q).pieces ≤ l
@@ -45,7 +45,7 @@ module _ (l w : ℕ) (os : List Oriented) (stock : Stock l w os) where
 
   -- ---- the strips of a segment
   module _ (f : Filling) where
-    pub strips_known : All (Known os) (first plain (map by_across (map (strip_of f l os) os)) w).order
+    pub strips_known : AllByRecursion (Known os) (first plain (map by_across (map (strip_of f l os) os)) w).order
     strips_known =
         all_each (λ k h. omega (arith, length-map os (strip_of f l os))) (first plain (map by_across (map (strip_of f l os) os)) w).order
         (positions by_across (map (strip_of f l os) os) w (all_strips_fine l w os stock f))

@@ -1,6 +1,6 @@
 -- The chooser can work on the candidates that it is offered.
 use Rattle.std.proofs.Common.{◌≡◌, ℕ, zero, suc, ◌-◌, ◌*◌, ◌/◌, ◌<◌, ◌≤◌, true, List, [], ◌∷◌, map, length, take, is_some, Some, None, Option, sym, refl, subst, mul-le-mul_right, mul-le-mul_left, div-mul-le_self, arith, MatchOption}
-use Rattle.std.specs.List.{AllByRecursion as All}
+use Rattle.std.specs.List.{AllByRecursion}
 use Rattle.std.proofs.lemmas.Bool.{lt-ltb}
 use Rattle.std.proofs.ByRecursion.{All-map}
 use Rattle.choosing.specs.Calls.{Workable, Choosable, GreatestWorth, Selected}
@@ -53,10 +53,10 @@ workable n table cands cap places e fair limit room = record { fair = subst (Fai
 abbrev pub Few : ℕ → Candidate ℕ → Type 0
 Few p c = (50 ≤ c.size) × (1 ≤ c.worth) × (c.worth ≤ 1_000_000 * p)
 
-pub few_fair : (p : ℕ) (cands : List (Candidate ℕ)) → All (Few p) cands → Fair plain PlainWithin p cands
+pub few_fair : (p : ℕ) (cands : List (Candidate ℕ)) → AllByRecursion (Few p) cands → Fair plain PlainWithin p cands
 few_fair p cands ok = record { room = λ k h. (at cands ok k h).0; value = λ k h. lt-ltb 0 (worth_at plain cands k) (at cands ok k h).1; few = λ k h. (at cands ok k h).2 }
   where
-    at : (cs : List (Candidate ℕ)) → All (Few p) cs → (k : ℕ) → k < length cs → (50 ≤ size_at cs k) × (1 ≤ worth_at plain cs k) × (worth_at plain cs k ≤ 1_000_000 * p)
+    at : (cs : List (Candidate ℕ)) → AllByRecursion (Few p) cs → (k : ℕ) → k < length cs → (50 ≤ size_at cs k) × (1 ≤ worth_at plain cs k) × (worth_at plain cs k ≤ 1_000_000 * p)
     at [] a k h = absurd (omega arith)
     at (c ∷ cs) a zero h = a.0
     at (c ∷ cs) a (suc k) h = at cs a.1 k (omega arith)
@@ -67,7 +67,7 @@ few_pieces l w q small c = omega (arith, div-mul-le_self l q.along, mul-le-mul_l
 
 module _ (l w : ℕ) (os : List Oriented) (stock : Stock l w os) where
   -- ---- pieces as candidates for a strip
-  pieces_few : (p h : ℕ) → 1 ≤ p → All (Few p) (strip_pieces os h)
+  pieces_few : (p h : ℕ) → 1 ≤ p → AllByRecursion (Few p) (strip_pieces os h)
   pieces_few p h some = All-map (Few p) _ (no_wider h os) (all_each (λ o c. (c.0.along_least, c.0.value_least, omega (arith, c.0.value_most))) (no_wider h os) (all_no_wider (Counts l w) h os stock.each))
 
   pub pieces_fair : (h : ℕ) → Fair plain PlainWithin 64 (strip_pieces os h)
@@ -82,19 +82,19 @@ module _ (l w : ℕ) (os : List Oriented) (stock : Stock l w os) where
   uniform_most : (q : Oriented) → Counts l w q → times plain (l / q.along) q.value ≤ 64_000_000
   uniform_most q c = omega (arith, times_is (l / q.along) q.value, mul-le-mul_right q.value (few_pieces l w q stock.along_most c), c.value_most)
 
-  strips_fine_of : (f : Filling) → All Fine (map by_across (map (strip_of f l os) os))
+  strips_fine_of : (f : Filling) → AllByRecursion Fine (map by_across (map (strip_of f l os) os))
   strips_fine_of General = strips_fine l os (stock_sizeable l w os stock) (all_each (λ o c. c.along_most) os stock.each)
-  strips_fine_of Uniform = subst (λ (qs : List Oriented). All Fine (map by_across (map (uniform_strip by_value l) qs))) (all_held l w os stock) (uniform_fine l os (stock_sizeable l w os stock))
+  strips_fine_of Uniform = subst (λ (qs : List Oriented). AllByRecursion Fine (map by_across (map (uniform_strip by_value l) qs))) (all_held l w os stock) (uniform_fine l os (stock_sizeable l w os stock))
 
   one_few : (f : Filling) (q : Oriented) → Counts l w q → Fine (by_across (strip_of f l os q)) → Few 64 (by_across (strip_of f l os q))
   one_few General q c fine = (c.across_least, fine.1, general_most q.across)
   one_few Uniform q c fine = (c.across_least, fine.1, uniform_most q c)
 
-  strips_few : (f : Filling) (qs : List Oriented) → All (Counts l w) qs → All Fine (map by_across (map (strip_of f l os) qs)) → All (Few 64) (map by_across (map (strip_of f l os) qs))
+  strips_few : (f : Filling) (qs : List Oriented) → AllByRecursion (Counts l w) qs → AllByRecursion Fine (map by_across (map (strip_of f l os) qs)) → AllByRecursion (Few 64) (map by_across (map (strip_of f l os) qs))
   strips_few f [] a b = tt
   strips_few f (q ∷ qs) a b = (one_few f q a.0 b.0, strips_few f qs a.1 b.1)
 
-  pub all_strips_fine : (f : Filling) → All Fine (map by_across (map (strip_of f l os) os))
+  pub all_strips_fine : (f : Filling) → AllByRecursion Fine (map by_across (map (strip_of f l os) os))
   all_strips_fine f = strips_fine_of f
 
   pub strips_fair : (f : Filling) → Fair plain PlainWithin 64 (map by_across (map (strip_of f l os) os))

@@ -1,6 +1,6 @@
 -- The numbers that a strip or a segment can hold.
 use Rattle.std.proofs.Common.{◌≡◌, ℕ, ◌≤◌, Bool, true, false, ◌&&◌, leb, List, length, filter, refl, ap, ◌∙◌, arith}
-use Rattle.std.specs.List.{AllByRecursion as All}
+use Rattle.std.specs.List.{AllByRecursion}
 use Rattle.std.proofs.lemmas.Bool.{le-leb}
 use Rattle.layout.specs.Tasks.{Model, WithinLimits}
 use Rattle.patterns.specs.declared.Oriented.{Oriented}
@@ -42,7 +42,7 @@ held_stock l k w os small stock =
 pub all_held : (l w : ℕ) (os : List Oriented) → Stock l w os → no_longer l os ≡ os
 all_held l w os stock = kept_all (λ (o : Oriented). leb o.along l) os (all_each (λ o c. le-leb o.along l c.along_most) os stock.each)
 
-pub stock_sizeable : (l w : ℕ) (os : List Oriented) → Stock l w os → All Sizeable os
+pub stock_sizeable : (l w : ℕ) (os : List Oriented) → Stock l w os → AllByRecursion Sizeable os
 stock_sizeable l w os stock = all_each (λ o c. record { along_least = c.along_least; across_least = c.across_least; value_least = c.value_least }) os stock.each
 
 -- a longer plate holds them too

@@ -1,6 +1,6 @@
 -- Lists that a loop writes to the front of a table, one element after the other.
 use Rattle.std.proofs.Common.{◌≡◌, ℕ, ◌+◌, ◌-◌, ◌<◌, ◌≤◌, Bool, true, false, List, [], ◌∷◌, ◌++◌, map, length, get_or, take, set, filter, sym, refl, ap, ◌∙◌, append_assoc, arith}
-use Rattle.std.specs.List.{AllByRecursion as All}
+use Rattle.std.specs.List.{AllByRecursion}
 use Rattle.std.proofs.lemmas.List.{take_all, take_more_set, map_more, get_or-map, length-map, length-take-le}
 use Rattle.std.proofs.lemmas.List.Elements.{filter_more}
 use Rattle.choosing.specs.Choice.{Known}
@@ -29,12 +29,12 @@ keep_more test xs i d front after b known is so_far e =
     e ∙ ap (λ t. t ++ keep b (get_or xs i d) []) so_far ∙ ap (λ c. filter test (take i xs) ++ keep c (get_or xs i d) []) is ∙ sym (filter_more test xs i d known)
 
 -- two tests that agree on a list keep the same of it
-pub kept_same : {A : Type 0} (f g : A → Bool) (xs : List A) → All (λ (x : A). f x ≡ g x) xs → filter f xs ≡ filter g xs
+pub kept_same : {A : Type 0} (f g : A → Bool) (xs : List A) → AllByRecursion (λ (x : A). f x ≡ g x) xs → filter f xs ≡ filter g xs
 kept_same f g [] same = refl
 kept_same f g (x ∷ xs) same = ap (λ b. keep b x (filter f xs)) same.0 ∙ ap (λ rest. keep (g x) x rest) (kept_same f g xs same.1)
 
 -- a test that each passes keeps all
-pub kept_all : {A : Type 0} (f : A → Bool) (xs : List A) → All (λ (x : A). f x ≡ true) xs → filter f xs ≡ xs
+pub kept_all : {A : Type 0} (f : A → Bool) (xs : List A) → AllByRecursion (λ (x : A). f x ≡ true) xs → filter f xs ≡ xs
 kept_all f [] ok = refl
 kept_all f (x ∷ xs) ok = ap (λ b. keep b x (filter f xs)) ok.0 ∙ ap (λ rest. x ∷ rest) (kept_all f xs ok.1)
 
@@ -62,15 +62,15 @@ map_twice g f (x ∷ xs) = ap (λ rest. g (f x) ∷ rest) (map_twice g f xs)
 -- ---- what stands at positions
 
 -- before and after a map
-pub at_map : {A B : Type 0} (f : A → B) (d : A) (e : B) (xs : List A) (ks : List ℕ) → All (λ (k : ℕ). k < length xs) ks → at e (map f xs) ks ≡ map f (at d xs ks)
+pub at_map : {A B : Type 0} (f : A → B) (d : A) (e : B) (xs : List A) (ks : List ℕ) → AllByRecursion (λ (k : ℕ). k < length xs) ks → at e (map f xs) ks ≡ map f (at d xs ks)
 at_map f d e xs [] ok = refl
 at_map f d e xs (k ∷ ks) ok = ap (λ b. b ∷ at e (map f xs) ks) (get_or-map f xs k d e ok.0) ∙ ap (λ bs. f (get_or xs k d) ∷ bs) (at_map f d e xs ks ok.1)
 
 -- positions that are known among candidates are known among what they are made of
-pub known_all : {A : Type 0} (f : A → Candidate ℕ) (xs : List A) (ks : List ℕ) → Known (map f xs) ks → All (λ (k : ℕ). k < length xs) ks
+pub known_all : {A : Type 0} (f : A → Candidate ℕ) (xs : List A) (ks : List ℕ) → Known (map f xs) ks → AllByRecursion (λ (k : ℕ). k < length xs) ks
 known_all f xs [] known = tt
 known_all f xs (k ∷ ks) known = (omega (arith, known.0, length-map xs f), known_all f xs ks known.1)
 
-pub all_units : {A : Type 0} (xs : List A) → All (λ (a : A). Unit {0}) xs
+pub all_units : {A : Type 0} (xs : List A) → AllByRecursion (λ (a : A). Unit {0}) xs
 all_units [] = tt
 all_units (x ∷ xs) = (tt, all_units xs)

@@ -1,6 +1,6 @@
 -- Rows that are laid one after the other.
 use Rattle.std.proofs.Common.{◌≡◌, ℕ, suc, ◌+◌, ◌<◌, ◌≤◌, List, [], ◌∷◌, ◌++◌, length, get_or, take, drop, set, sym, refl, ap, ◌∙◌, subst, append_assoc, arith}
-use Rattle.std.specs.List.{AllByRecursion as All}
+use Rattle.std.specs.List.{AllByRecursion}
 use Rattle.std.proofs.lemmas.List.{drop_more, at_drop_more, at_drop_all, append-nil, length-append}
 use Rattle.layout.specs.declared.row.Row.{Row}
 use Rattle.patterns.specs.declared.Oriented.{Oriented}
@@ -35,8 +35,8 @@ module _ (g n y x : ℕ) (pieces : List Oriented) (i : ℕ) where
 -- ---- the strips of a segment
 
 module _ (s : Segment) (os : List Oriented) (order : List ℕ) (i : ℕ) where
-  pub known_more : i < length order → All (Known os) (drop i order) → Known os (get_or order i 0) × All (Known os) (drop (i + 1) order)
-  known_more known ok = subst (All (Known os)) (drop_more order i 0 known) ok
+  pub known_more : i < length order → AllByRecursion (Known os) (drop i order) → Known os (get_or order i 0) × AllByRecursion (Known os) (drop (i + 1) order)
+  known_more known ok = subst (AllByRecursion (Known os)) (drop_more order i 0 known) ok
 
   pub across_more : i < length order → sum_across (at no_piece os (drop i order)) ≡ (get_or os (get_or order i 0) no_piece).across + sum_across (at no_piece os (drop (i + 1) order))
   across_more known = at_drop_more (λ ks. sum_across (at no_piece os ks)) order i 0 known

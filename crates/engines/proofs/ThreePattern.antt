@@ -1,6 +1,6 @@
 -- The three-staged pattern as the engine writes it.
 use Rattle.std.proofs.Common.{◌≡◌, ℕ, zero, suc, ◌+◌, ◌-◌, ◌<◌, ◌≤◌, Bool, true, false, cond, eqb, ltb, List, [], ◌∷◌, ◌++◌, length, get_or, sym, refl, ap, ◌∙◌, subst, ⊎_elim, arith}
-use Rattle.std.specs.List.{AllByRecursion as All}
+use Rattle.std.specs.List.{AllByRecursion}
 use Rattle.std.proofs.lemmas.List.{length-append}
 use Rattle.std.proofs.lemmas.Bool.{ltb-false, cases_Bool, ne_eqb}
 use Rattle.choosing.specs.Numbers.{plain_laws, plain_limits}
@@ -87,7 +87,7 @@ module _ (m : Model) (ok : WithinLimits m) where
       by (o ∷ os) h = omega arith
 
   -- the right segment has number 0 where there are no rows on the left
-  side_is : (c : ℕ) (left right : List (Strip ℕ)) → All (Ready m c) left → lay 0 0 0 0 left ++ lay (cond (eqb (length (lay 0 0 0 0 left)) 0) 0 1) 0 c 0 right ≡ side_by_side c left right
+  side_is : (c : ℕ) (left right : List (Strip ℕ)) → AllByRecursion (Ready m c) left → lay 0 0 0 0 left ++ lay (cond (eqb (length (lay 0 0 0 0 left)) 0) 0 1) 0 c 0 right ≡ side_by_side c left right
   side_is c [] right ready = refl
   side_is c (st ∷ sts) right ready =
       let some = some_rows c st sts ready.0 in

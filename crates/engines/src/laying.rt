@@ -1,6 +1,6 @@
 // The rows of a strip, and of strips one above the other.
 ghost use Rattle.std.specs.Prelude.{◌≡◌, ◌+◌, ◌<◌, ◌≤◌, length as size};
-ghost use Rattle.std.specs.List.{AllByRecursion as All};
+ghost use Rattle.std.specs.List.{AllByRecursion};
 ghost use Rattle.patterns.specs.Counting.{Counts};
 ghost use Rattle.patterns.specs.Numbers.{no_piece};
 ghost use Rattle.patterns.specs.Strips.{at, by_value, general_strip, rows_of_strip, row, uniform_strip};
@@ -130,7 +130,7 @@ pub(crate) fn lay_strips(
     start: usize,
 ) -> usize
     requires stock { Stock segment.length segment.width numbers.now }
-    requires known { All (Known numbers.now) order.now }
+    requires known { AllByRecursion (Known numbers.now) order.now }
     requires strips { size order.now ≤ 64 }
     requires across { sum_across (at no_piece numbers.now order.now) ≤ 3200 }
     requires along { segment.x + segment.length ≤ 3200 }

@@ -1,6 +1,6 @@
 // The strip of one number: what it is worth, and its pieces.
 ghost use Rattle.std.specs.Prelude.{◌≡◌, ◌≤◌, map, length as size, take};
-ghost use Rattle.std.specs.List.{AllByRecursion as All};
+ghost use Rattle.std.specs.List.{AllByRecursion};
 ghost use Rattle.patterns.specs.Counting.{Counts};
 ghost use Rattle.patterns.specs.Numbers.{no_piece};
 ghost use Rattle.patterns.specs.Strips.{at, by_along, by_value, general_strip, no_wider, uniform_strip};
@@ -90,7 +90,7 @@ pub(crate) fn strip_worth(
 
 // Writes the numbers at these positions to the front of `out`.
 fn gather(numbers: &[Oriented], positions: &[usize], out: &mut [Oriented])
-    requires known { All (Known numbers.now) positions.now }
+    requires known { AllByRecursion (Known numbers.now) positions.now }
     requires places { size positions.now ≤ size out.old }
     ensures { take (size positions.now) out.new ≡ at no_piece numbers.now positions.now }
 {

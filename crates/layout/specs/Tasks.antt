@@ -1,5 +1,5 @@
 -- A task as the promises speak of it: with its values (Model) and without them (Shape).
-use Rattle.std.specs.Prelude.{◌≡◌, ℕ, ◌+◌, ◌<◌, ◌≤◌, Bool, ◌⊎◌, List, [], ◌∷◌, map, length as count, get_or, slice_index_or}
+use Rattle.std.specs.Prelude.{◌≡◌, ℕ, ◌+◌, ◌<◌, ◌≤◌, Bool, ◌⊎◌, List, [], ◌∷◌, map, length as count, slice_index_or}
 use Rattle.layout.specs.declared.panel.Panel.{Panel}
 use Rattle.layout.specs.declared.panel.Kind.{Kind}
 use Rattle.layout.specs.declared.row.Row.{Row}
@@ -79,7 +79,7 @@ BeyondReach reach m = (reach < m.length) ⊎ (reach < m.width) ⊎ SomeKind (Kin
 
 -- what one piece of a row's kind is worth
 abbrev pub value_of : Model → Row → ℕ
-value_of m r = (get_or m.kinds r.kind no_kind).value
+value_of m r = (slice_index_or m.kinds r.kind no_kind).value
 
 -- the worth of a list of rows: the sum of its rows' values, spare rows included
 abbrev pub worth : Model → List Row → ℕ

@@ -1,6 +1,6 @@
 -- A text says at most one order, and has at most one fault; never both.
 use Rattle.std.proofs.Common.{◌≡◌, ℕ, ◌+◌, ◌<◌, ◌≤◌, List, [], ◌∷◌, ◌++◌, length, take, drop, codes, decimal, sym, refl, ap, ◌∙◌, subst, append_assoc, arith, take-append-drop}
-use Rattle.std.specs.List.{AllByRecursion as All}
+use Rattle.std.specs.List.{AllByRecursion}
 use Rattle.std.proofs.lemmas.List.{take-take}
 use Rattle.text.specs.declared.fields.End.TheVariants.{Blank, Line}
 use Rattle.text.specs.Texts.{Begins}
@@ -44,7 +44,7 @@ same_item i k x y si sk e =
     (record { length = k.length; width = k.width; may_turn = k.may_turn; value = k.value; ordered = k.ordered }) = cc (a.0, b.0, t.0, c.0, l.0) in
     (e, l.1)
 
-same_items : (is ks : List Item) → All ShortItem is → All ShortItem ks → item_lines is ≡ item_lines ks → is ≡ ks
+same_items : (is ks : List Item) → AllByRecursion ShortItem is → AllByRecursion ShortItem ks → item_lines is ≡ item_lines ks → is ≡ ks
 same_items [] [] si sk e = refl
 same_items [] (k ∷ ks) si sk e = absurd (omega (arith, ap length e))
 same_items (i ∷ is) [] si sk e = absurd (omega (arith, ap length e))

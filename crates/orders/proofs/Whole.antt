@@ -1,6 +1,6 @@
 -- A whole text: the job line and then item lines.
 use Rattle.std.proofs.Common.{◌≡◌, ℕ, ◌<◌, List, [], ◌∷◌, ◌++◌, length, sym, refl, ap, ◌∙◌, subst, append_assoc, append-nil, arith, length-append}
-use Rattle.std.specs.List.{AllByRecursion as All}
+use Rattle.std.specs.List.{AllByRecursion}
 use Rattle.std.proofs.ByRecursion.{All-append, All-push}
 use Rattle.std.proofs.lemmas.List.{nil_from_length}
 use Rattle.orders.specs.declared.order.Head.{Head}
@@ -12,7 +12,7 @@ use Rattle.text.proofs.Codes.{Then, same_front, push_rest, stops_first, not_whol
 use Rattle.orders.proofs.LineParts.{job_code, item_code}
 
 abbrev pub Items : List ℕ → Type 0
-Items t = (is : List Item) × All ShortItem is × (t ≡ item_lines is)
+Items t = (is : List Item) × AllByRecursion ShortItem is × (t ≡ item_lines is)
 
 no_items : Items []
 no_items = ([], tt, refl)
@@ -36,7 +36,7 @@ peel i s x ([], si, e) = absurd (omega (arith, ap length e))
 peel i s x (k ∷ ks, si, e) =
     (ks, si.1, sym (same_front ItemLine item_code (line_of_item i) x (line_of_item k) (item_lines ks) (i, s, refl) (k, si.0, refl) e).1)
 
-past_items : (is : List Item) → All ShortItem is → (x : List ℕ) → Items (item_lines is ++ x) → Items x
+past_items : (is : List Item) → AllByRecursion ShortItem is → (x : List ℕ) → Items (item_lines is ++ x) → Items x
 past_items [] si x h = h
 past_items (i ∷ is) si x h =
     past_items is si.1 x (peel i si.0 (item_lines is ++ x) (subst Items (append_assoc (line_of_item i) (item_lines is) x) h))
@@ -46,7 +46,7 @@ lines_append [] ks = refl
 lines_append (i ∷ is) ks = ap (λ z. line_of_item i ++ z) (lines_append is ks) ∙ sym (append_assoc (line_of_item i) (item_lines is) (item_lines ks))
 
 -- the lines that were read
-module _ (h : Head) (sh : ShortHead h) (is : List Item) (si : All ShortItem is) where
+module _ (h : Head) (sh : ShortHead h) (is : List Item) (si : AllByRecursion ShortItem is) where
   past_lines : (x : List ℕ) → Lawful (text_of h is ++ x) → Items x
   past_lines x l =
       let p = to_parts (text_of h is ++ x) l in
@@ -110,7 +110,7 @@ pub record Behind (t rest : List ℕ) : Type 0 where
   pub head : Head
   pub short_head : ShortHead head
   pub items : List Item
-  pub short_items : All ShortItem items
+  pub short_items : AllByRecursion ShortItem items
   pub parts : t ≡ text_of head items ++ rest
 
 pub behind_job : (t rest : List ℕ) (h : Head) → ShortHead h × (t ≡ line_of_job h ++ rest) → Behind t rest

@@ -1,6 +1,6 @@
 // What the program prints for an order text.
 ghost use Rattle.std.specs.Prelude.{◌≡◌, is_ok, IfOk, string_bytes};
-ghost use Rattle.std.specs.List.{AllByRecursion as All};
+ghost use Rattle.std.specs.List.{AllByRecursion};
 ghost use Rattle.orders.specs.Lines.{ShortItem};
 ghost use Rattle.orders.specs.Printed.{Few, Appended, pieces_of, head_words, count_words, order_line};
 ghost use Rattle.orders.specs.Judged.{Judged};
@@ -15,7 +15,7 @@ use text::report::{Report, bad};
 // How many pieces are ordered in all.
 fn pieces_of_items(items: &[Item]) -> u64
     requires few { Few items.now }
-    requires short { All ShortItem items.now }
+    requires short { AllByRecursion ShortItem items.now }
     ensures { result ≡ pieces_of items.now }
 {
     let mut pieces = 0;
@@ -52,7 +52,7 @@ fn push_counts(out: &mut String, lines: usize, pieces: u64) -> Result<(), AllocE
 // The order on one line.
 fn push_order(out: &mut String, head: Head, items: &[Item]) -> Result<(), AllocError>
     requires few { Few items.now }
-    requires short { All ShortItem items.now }
+    requires short { AllByRecursion ShortItem items.now }
     ensures { Appended (is_ok result) (string_bytes out.old) (order_line head items.now) (string_bytes out.new) }
 {
     push_head(out, head)?;

@@ -1,6 +1,6 @@
 -- The candidates of the choices that the named patterns make: they take room and are worth something; and what the laws of the choice say in numbers.
 use Rattle.std.proofs.Common.{◌≡◌, ℕ, zero, suc, ◌+◌, ◌-◌, ◌*◌, ◌/◌, ◌<◌, ◌≤◌, leb, List, [], ◌∷◌, map, length, sym, refl, mul-le-mul_right, suc-mul, le-div_iff_mul-le, zero-mul, arith}
-use Rattle.std.specs.List.{AllByRecursion as All}
+use Rattle.std.specs.List.{AllByRecursion}
 use Rattle.std.proofs.lemmas.Bool.{leb-true, le-leb, ltb-false, lt-ltb}
 use Rattle.std.proofs.ByRecursion.{All-map}
 use Rattle.choosing.specs.Choice.{size_at, worth_at, total_worth, Feasible, most}
@@ -25,15 +25,15 @@ use Rattle.patterns.proofs.Numbered.{numbers_counted}
 abbrev pub Fine : Candidate ℕ → Type 0
 Fine c = (1 ≤ c.size) × (1 ≤ c.worth)
 
-pub all_sound : (cands : List (Candidate ℕ)) → All Fine cands → Sound plain cands
+pub all_sound : (cands : List (Candidate ℕ)) → AllByRecursion Fine cands → Sound plain cands
 all_sound cands ok = record { room = λ k h. (at cands ok k h).0; value = λ k h. lt-ltb 0 (worth_at plain cands k) (at cands ok k h).1 }
   where
-    at : (cs : List (Candidate ℕ)) → All Fine cs → (k : ℕ) → k < length cs → (1 ≤ size_at cs k) × (1 ≤ worth_at plain cs k)
+    at : (cs : List (Candidate ℕ)) → AllByRecursion Fine cs → (k : ℕ) → k < length cs → (1 ≤ size_at cs k) × (1 ≤ worth_at plain cs k)
     at [] a k h = absurd (omega arith)
     at (c ∷ cs) a zero h = a.0
     at (c ∷ cs) a (suc k) h = at cs a.1 k (omega arith)
 
-module _ (cands : List (Candidate ℕ)) (ok : All Fine cands) where
+module _ (cands : List (Candidate ℕ)) (ok : AllByRecursion Fine cands) where
   pub greatest : (cap : ℕ) (js : List ℕ) → Feasible cands cap js → total_worth plain cands js ≤ most plain cands cap
   greatest cap js f = ltb-false (most plain cands cap) (total_worth plain cands js) ((right_best plain_laws cands (all_sound cands ok) cap cap (omega arith)).greatest js f)
 
@@ -57,7 +57,7 @@ placed f (there i) = let r = placed f i in (suc r.0, omega (arith, r.1), r.2, r.
 
 -- ---- the order in which strips are preferred has the same numbers
 
-pub all_preferred : (P : Oriented → Type 0) (os : List Oriented) → All P os → All P (preferred os)
+pub all_preferred : (P : Oriented → Type 0) (os : List Oriented) → AllByRecursion P os → AllByRecursion P (preferred os)
 all_preferred P os ok = ok
 
 pub in_preferred : {o : Oriented} {os : List Oriented} → In o os → In o (preferred os)
@@ -84,10 +84,10 @@ in_no_wider h {o} i le = in_kept_by (λ (q : Oriented). leb q.across h) i (le-le
 pub in_no_longer : (l : ℕ) {o : Oriented} {os : List Oriented} → In o os → o.along ≤ l → In o (no_longer l os)
 in_no_longer l {o} i le = in_kept_by (λ (q : Oriented). leb q.along l) i (le-leb o.along l le)
 
-pub all_no_wider : (P : Oriented → Type 0) (h : ℕ) (os : List Oriented) → All P os → All (λ (o : Oriented). P o × (o.across ≤ h)) (no_wider h os)
+pub all_no_wider : (P : Oriented → Type 0) (h : ℕ) (os : List Oriented) → AllByRecursion P os → AllByRecursion (λ (o : Oriented). P o × (o.across ≤ h)) (no_wider h os)
 all_no_wider P h os ok = all_each (λ o z. (z.0, leb-true o.across h z.1)) (no_wider h os) (all_tested (λ (q : Oriented). leb q.across h) P os ok)
 
-pub all_no_longer : (P : Oriented → Type 0) (l : ℕ) (os : List Oriented) → All P os → All (λ (o : Oriented). P o × (o.along ≤ l)) (no_longer l os)
+pub all_no_longer : (P : Oriented → Type 0) (l : ℕ) (os : List Oriented) → AllByRecursion P os → AllByRecursion (λ (o : Oriented). P o × (o.along ≤ l)) (no_longer l os)
 all_no_longer P l os ok = all_each (λ o z. (z.0, leb-true o.along l z.1)) (no_longer l os) (all_tested (λ (q : Oriented). leb q.along l) P os ok)
 
 -- ---- the candidates of the two-staged rule, and of the three-staged one
@@ -101,11 +101,11 @@ general_strips l os = map by_across (map (general_strip by_value l os) (preferre
 abbrev pub uniform_strips : ℕ → List Oriented → List (Candidate ℕ)
 uniform_strips l os = map by_across (map (uniform_strip by_value l) (no_longer l (preferred os)))
 
-pub pieces_fine : (os : List Oriented) → All Sizeable os → (h : ℕ) → All Fine (strip_pieces os h)
+pub pieces_fine : (os : List Oriented) → AllByRecursion Sizeable os → (h : ℕ) → AllByRecursion Fine (strip_pieces os h)
 pieces_fine os ok h = All-map Fine (by_along by_value) (no_wider h os) (all_each (λ o z. (omega (arith, z.0.along_least), z.0.value_least)) (no_wider h os) (all_no_wider Sizeable h os ok))
 
 -- a number that fits is worth something by itself
-pub strips_fine : (l : ℕ) (os : List Oriented) → All Sizeable os → All (λ (o : Oriented). o.along ≤ l) os → All Fine (general_strips l os)
+pub strips_fine : (l : ℕ) (os : List Oriented) → AllByRecursion Sizeable os → AllByRecursion (λ (o : Oriented). o.along ≤ l) os → AllByRecursion Fine (general_strips l os)
 strips_fine l os ok fit =
     All-map Fine by_across (map (general_strip by_value l os) (preferred os)) (All-map (λ (s : Strip ℕ). Fine (by_across s)) (general_strip by_value l os) (preferred os) (all_preferred (λ (o : Oriented). Fine (by_across (general_strip by_value l os o))) os (all_in (λ (o : Oriented). Fine (by_across (general_strip by_value l os o))) os one)))
   where
@@ -123,7 +123,7 @@ pub times_is : (n v : ℕ) → times plain n v ≡ n * v
 times_is zero v = sym (zero-mul v)
 times_is (suc n) v = omega (arith, times_is n v, suc-mul n v)
 
-pub uniform_fine : (l : ℕ) (os : List Oriented) → All Sizeable os → All Fine (uniform_strips l os)
+pub uniform_fine : (l : ℕ) (os : List Oriented) → AllByRecursion Sizeable os → AllByRecursion Fine (uniform_strips l os)
 uniform_fine l os ok =
     All-map Fine by_across (map (uniform_strip by_value l) (no_longer l (preferred os))) (All-map (λ (s : Strip ℕ). Fine (by_across s)) (uniform_strip by_value l) (no_longer l (preferred os))
     (all_each (λ o z. (omega (arith, z.0.across_least), worthy o z.0 z.1)) (no_longer l (preferred os)) (all_no_longer Sizeable l (preferred os) (all_preferred Sizeable os ok))))
@@ -134,7 +134,7 @@ uniform_fine l os ok =
         omega (arith, times_is (l / o.along) o.value, mul-le-mul_right o.value some, z.value_least)
 
 -- the numbers of a task within the limits, by their sizes alone
-pub numbers_counts : (m : Model) → WithinLimits m → All (Counts m.length m.width) (numbers m)
+pub numbers_counts : (m : Model) → WithinLimits m → AllByRecursion (Counts m.length m.width) (numbers m)
 numbers_counts m ok =
     all_each (λ o c. let z = sizeable m ok o c in record { along_least = z.along_least; across_least = z.across_least; value_least = z.value_least; value_most = omega (arith, (ok.values o.kind c.known).1, c.value_is); along_most = c.along_most; across_most = c.across_most })
     (numbers m) (numbers_counted m)

@@ -1,6 +1,6 @@
 -- The strips that the named patterns choose: each can be laid, and together they fit the plate.
 use Rattle.std.proofs.Common.{◌≡◌, ℕ, zero, suc, ◌+◌, ◌*◌, ◌/◌, ◌<◌, ◌≤◌, List, [], ◌∷◌, map, length, get_or, replicate, sym, refl, ap, ◌∙◌, suc-mul, zero-mul, div-mul-le_self, arith}
-use Rattle.std.specs.List.{AllByRecursion as All}
+use Rattle.std.specs.List.{AllByRecursion}
 use Rattle.std.proofs.ByRecursion.{All-append, All-map}
 use Rattle.layout.specs.declared.row.Row.{Row}
 use Rattle.layout.specs.Tasks.{Model, WithinLimits}
@@ -29,17 +29,17 @@ module _ {A : Type 0} (f : A → Candidate ℕ) (d : A) where
   one_at (x ∷ xs) zero h = (refl, refl)
   one_at (x ∷ xs) (suc k) h = one_at xs k (omega arith)
 
-  all_one : (P : A → Type 0) (xs : List A) (k : ℕ) → All P xs → k < length (map f xs) → P (get_or xs k d)
+  all_one : (P : A → Type 0) (xs : List A) (k : ℕ) → AllByRecursion P xs → k < length (map f xs) → P (get_or xs k d)
   all_one P [] k ok h = absurd (omega arith)
   all_one P (x ∷ xs) zero ok h = ok.0
   all_one P (x ∷ xs) (suc k) ok h = all_one P xs k ok.1 (omega arith)
 
   pub record Taken (P : A → Type 0) (xs : List A) (ks : List ℕ) : Type 0 where
-    pub each : All P (at d xs ks)
+    pub each : AllByRecursion P (at d xs ks)
     pub size_is : sum (λ (a : A). (f a).size) (at d xs ks) ≡ total_size (map f xs) ks
     pub worth_is : sum (λ (a : A). (f a).worth) (at d xs ks) ≡ total_worth plain (map f xs) ks
 
-  pub taken_at : (P : A → Type 0) (xs : List A) (ks : List ℕ) → All P xs → Known (map f xs) ks → Taken P xs ks
+  pub taken_at : (P : A → Type 0) (xs : List A) (ks : List ℕ) → AllByRecursion P xs → Known (map f xs) ks → Taken P xs ks
   taken_at P xs [] ok known = record { each = tt; size_is = refl; worth_is = refl }
   taken_at P xs (k ∷ ks) ok known =
       let rest = taken_at P xs ks ok known.1 in
@@ -52,11 +52,11 @@ module _ {A : Type 0} (f : A → Candidate ℕ) (d : A) where
 
   -- the first choice of greatest worth
   pub record Best (P : A → Type 0) (xs : List A) (cap : ℕ) : Type 0 where
-    pub each : All P (at d xs (first plain (map f xs) cap).order)
+    pub each : AllByRecursion P (at d xs (first plain (map f xs) cap).order)
     pub within : sum (λ (a : A). (f a).size) (at d xs (first plain (map f xs) cap).order) ≤ cap
     pub worth_is : sum (λ (a : A). (f a).worth) (at d xs (first plain (map f xs) cap).order) ≡ most plain (map f xs) cap
 
-  pub best : (P : A → Type 0) (xs : List A) (cap : ℕ) → All P xs → All Fine (map f xs) → Best P xs cap
+  pub best : (P : A → Type 0) (xs : List A) (cap : ℕ) → AllByRecursion P xs → AllByRecursion Fine (map f xs) → Best P xs cap
   best P xs cap ok fine =
       let r = right_best plain_laws (map f xs) (all_sound (map f xs) fine) cap cap (omega arith) in
       let t = taken_at P xs (first plain (map f xs) cap).order ok r.feasible.known in
@@ -64,7 +64,7 @@ module _ {A : Type 0} (f : A → Candidate ℕ) (d : A) where
 
 -- ---- a number of the same piece
 
-all_replicate : {A : Type 0} (P : A → Type 0) (a : A) → P a → (n : ℕ) → All P (replicate n a)
+all_replicate : {A : Type 0} (P : A → Type 0) (a : A) → P a → (n : ℕ) → AllByRecursion P (replicate n a)
 all_replicate P a p zero = tt
 all_replicate P a p (suc n) = (p, all_replicate P a p n)
 
@@ -74,7 +74,7 @@ sum_replicate f a (suc n) = omega (arith, sum_replicate f a n, suc-mul n (f a))
 
 -- the pieces of a strip are of one number
 abbrev pub Uniform : Strip ℕ → Type 0
-Uniform st = (o : Oriented) × All (λ (q : Oriented). q ≡ o) st.pieces
+Uniform st = (o : Oriented) × AllByRecursion (λ (q : Oriented). q ≡ o) st.pieces
 
 module _ (m : Model) (ok : WithinLimits m) where
   pub general_ready : (q : Oriented) → In q (numbers m) → Ready m m.length (general_strip by_value m.length (numbers m) q)
@@ -85,7 +85,7 @@ module _ (m : Model) (ok : WithinLimits m) where
       fine : 1 ≤ (general_strip by_value m.length (numbers m) q).worth
       fine = in_all (λ (o : Oriented). 1 ≤ (general_strip by_value m.length (numbers m) o).worth) (in_preferred i) (unmap (preferred (numbers m)) (two_fine m ok))
         where
-          unmap : (os : List Oriented) → All Fine (map by_across (map (general_strip by_value m.length (numbers m)) os)) → All (λ (o : Oriented). 1 ≤ (general_strip by_value m.length (numbers m) o).worth) os
+          unmap : (os : List Oriented) → AllByRecursion Fine (map by_across (map (general_strip by_value m.length (numbers m)) os)) → AllByRecursion (λ (o : Oriented). 1 ≤ (general_strip by_value m.length (numbers m) o).worth) os
           unmap [] a = tt
           unmap (o ∷ os) a = (a.0.1, unmap os a.1)
 
@@ -114,14 +114,14 @@ module _ (m : Model) (ok : WithinLimits m) where
       (ready (no_longer l (preferred (numbers m))) (all_no_longer (Counted m) l (preferred (numbers m)) (all_preferred (Counted m) (numbers m) (numbers_counted m))) (uniform_fine l (numbers m) (all_sizeable m ok)))
       (uniform_fine l (numbers m) (all_sizeable m ok))
     where
-      ready : (os : List Oriented) → All (λ (o : Oriented). Counted m o × (o.along ≤ l)) os → All Fine (map by_across (map (uniform_strip by_value l) os)) → All (λ (st : Strip ℕ). Ready m l st × Uniform st) (map (uniform_strip by_value l) os)
+      ready : (os : List Oriented) → AllByRecursion (λ (o : Oriented). Counted m o × (o.along ≤ l)) os → AllByRecursion Fine (map by_across (map (uniform_strip by_value l) os)) → AllByRecursion (λ (st : Strip ℕ). Ready m l st × Uniform st) (map (uniform_strip by_value l) os)
       ready [] a b = tt
       ready (o ∷ os) a b = (uniform_ready l o a.0.0 b.0, ready os a.1 b.1)
 
 -- ---- the rows of uniform strips
 
 -- the number of which a strip is made
-pub kind_of_strip : (sts : List (Strip ℕ)) → All Uniform sts → ℕ → Oriented
+pub kind_of_strip : (sts : List (Strip ℕ)) → AllByRecursion Uniform sts → ℕ → Oriented
 kind_of_strip [] u j = no_piece
 kind_of_strip (st ∷ sts) u zero = u.0.0
 kind_of_strip (st ∷ sts) u (suc j) = kind_of_strip sts u.1 j
@@ -133,7 +133,7 @@ pub record Belongs (n : ℕ) (sort : ℕ → Oriented) (r : Row) : Type 0 where
   pub kind : r.kind ≡ (sort above).kind
   pub turned : r.turned ≡ (sort above).turned
 
-pub belong : (g n x y : ℕ) (sts : List (Strip ℕ)) (u : All Uniform sts) → All (Belongs n (kind_of_strip sts u)) (lay g n x y sts)
+pub belong : (g n x y : ℕ) (sts : List (Strip ℕ)) (u : AllByRecursion Uniform sts) → AllByRecursion (Belongs n (kind_of_strip sts u)) (lay g n x y sts)
 unfolding kind_of_strip
 belong g n x y [] u = tt
 belong g n x y (st ∷ sts) u =
@@ -141,6 +141,6 @@ belong g n x y (st ∷ sts) u =
     (one x st.pieces u.0.1)
     (all_each (λ r b. record { above = suc b.above; strip = omega (arith, b.strip); kind = b.kind; turned = b.turned }) (lay g (suc n) x (y + st.across) sts) (belong g (suc n) x (y + st.across) sts u.1))
   where
-    one : (z : ℕ) (os : List Oriented) → All (λ (q : Oriented). q ≡ u.0.0) os → All (Belongs n (kind_of_strip (st ∷ sts) u)) (rows_of_strip g n y z os)
+    one : (z : ℕ) (os : List Oriented) → AllByRecursion (λ (q : Oriented). q ≡ u.0.0) os → AllByRecursion (Belongs n (kind_of_strip (st ∷ sts) u)) (rows_of_strip g n y z os)
     one z [] same = tt
     one z (o ∷ os) same = (record { above = 0; strip = omega arith; kind = ap (λ (q : Oriented). q.kind) same.0; turned = ap (λ (q : Oriented). q.turned) same.0 }, one (z + o.along) os same.1)

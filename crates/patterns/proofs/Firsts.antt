@@ -1,6 +1,6 @@
 -- The first choice of positions in a list is the first sequence of the numbers that stand there; and there is only one.
 use Rattle.std.proofs.Common.{◌≡◌, ℕ, suc, ◌<◌, List, [], ◌∷◌, map, length, get_or, sym, refl, ap, ◌∙◌, subst, inl, inr, ⊎_elim, arith}
-use Rattle.std.specs.List.{AllByRecursion as All}
+use Rattle.std.specs.List.{AllByRecursion}
 use Rattle.std.proofs.lemmas.List.{length-map, get_or-map}
 use Rattle.std.proofs.lemmas.Bool.{ltb-false}
 use Rattle.choosing.specs.Choice.{total_worth, Known, Feasible, Before, First}
@@ -19,15 +19,15 @@ pub map_twice : {A B C : Type 0} (g : B → C) (f : A → B) (xs : List A) → m
 map_twice g f [] = refl
 map_twice g f (x ∷ xs) = ap (λ ys. g (f x) ∷ ys) (map_twice g f xs)
 
-pub map_same : {A B : Type 0} (f g : A → B) (xs : List A) → All (λ (a : A). f a ≡ g a) xs → map f xs ≡ map g xs
+pub map_same : {A B : Type 0} (f g : A → B) (xs : List A) → AllByRecursion (λ (a : A). f a ≡ g a) xs → map f xs ≡ map g xs
 map_same f g [] same = refl
 map_same f g (x ∷ xs) same = ap (λ y. y ∷ map f xs) same.0 ∙ ap (λ ys. g x ∷ ys) (map_same f g xs same.1)
 
-pub at_map : {A B : Type 0} (f : A → B) (d : A) (e : B) (xs : List A) (ks : List ℕ) → All (λ (k : ℕ). k < length xs) ks → at e (map f xs) ks ≡ map f (at d xs ks)
+pub at_map : {A B : Type 0} (f : A → B) (d : A) (e : B) (xs : List A) (ks : List ℕ) → AllByRecursion (λ (k : ℕ). k < length xs) ks → at e (map f xs) ks ≡ map f (at d xs ks)
 at_map f d e xs [] known = refl
 at_map f d e xs (k ∷ ks) known = ap (λ y. y ∷ at e (map f xs) ks) (get_or-map f xs k d e known.0) ∙ ap (λ ys. f (get_or xs k d) ∷ ys) (at_map f d e xs ks known.1)
 
-pub known_places : {A W : Type 0} (f : A → Candidate W) (xs : List A) (ks : List ℕ) → Known (map f xs) ks → All (λ (k : ℕ). k < length xs) ks
+pub known_places : {A W : Type 0} (f : A → Candidate W) (xs : List A) (ks : List ℕ) → Known (map f xs) ks → AllByRecursion (λ (k : ℕ). k < length xs) ks
 known_places f xs [] known = tt
 known_places f xs (k ∷ ks) known = (omega (arith, known.0, length-map xs f), known_places f xs ks known.1)
 
@@ -44,7 +44,7 @@ module _ (rank : Oriented → ℕ) (f : Oriented → Candidate ℕ) (xs : List O
     known : Known (map f xs) places
     is : at no_piece xs places ≡ ps
 
-  positions : (ps : List Oriented) → All (λ (p : Oriented). In p xs) ps → Positions ps
+  positions : (ps : List Oriented) → AllByRecursion (λ (p : Oriented). In p xs) ps → Positions ps
   positions [] ok = record { places = []; known = tt; is = refl }
   positions (p ∷ ps) ok =
       let here = position ok.0 in
@@ -61,7 +61,7 @@ module _ (rank : Oriented → ℕ) (f : Oriented → Candidate ℕ) (xs : List O
   before_ranks (j ∷ js) (k ∷ ks) a b (inl lt) = inl (pairs_at (λ (p q : Oriented). rank p < rank q) xs ordered j k no_piece lt (omega (arith, b.0, length-map xs f)))
   before_ranks (j ∷ js) (k ∷ ks) a b (inr (e, h)) = inr (ap (λ n. rank (get_or xs n no_piece)) e, before_ranks js ks a.1 b.1 h)
 
-  pub first_best : (Usable : Oriented → Type 0) (cap : ℕ) (ks : List ℕ) → ((p : Oriented) → Usable p → In p xs) → All Usable xs → First plain (map f xs) cap ks → FirstBest rank Usable (λ (o : Oriented). (f o).size) (λ (o : Oriented). (f o).worth) cap (at no_piece xs ks)
+  pub first_best : (Usable : Oriented → Type 0) (cap : ℕ) (ks : List ℕ) → ((p : Oriented) → Usable p → In p xs) → AllByRecursion Usable xs → First plain (map f xs) cap ks → FirstBest rank Usable (λ (o : Oriented). (f o).size) (λ (o : Oriented). (f o).worth) cap (at no_piece xs ks)
   first_best Usable cap ks inside ok first =
       record {
         fits = record { usable = mine.each; within = omega (arith, mine.size_is, first.feasible.within) };
@@ -85,7 +85,7 @@ module _ (rank : Oriented → ℕ) (f : Oriented → Candidate ℕ) (xs : List O
 
 -- ---- the same under worths that agree on what may be used
 
-sum_same : (Usable : Oriented → Type 0) (v w : Oriented → ℕ) → ((q : Oriented) → Usable q → v q ≡ w q) → (qs : List Oriented) → All Usable qs → sum v qs ≡ sum w qs
+sum_same : (Usable : Oriented → Type 0) (v w : Oriented → ℕ) → ((q : Oriented) → Usable q → v q ≡ w q) → (qs : List Oriented) → AllByRecursion Usable qs → sum v qs ≡ sum w qs
 sum_same Usable v w same [] ok = refl
 sum_same Usable v w same (q ∷ qs) ok = omega (arith, same q ok.0, sum_same Usable v w same qs ok.1)
 

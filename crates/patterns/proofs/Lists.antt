@@ -1,21 +1,21 @@
 -- What holds of each element of a list, and of each two; sums over a list.
 use Rattle.std.proofs.Common.{◌≡◌, ℕ, zero, suc, ◌+◌, ◌<◌, Bool, true, false, ◌⊎◌, List, [], ◌∷◌, ◌++◌, map, length, get_or, filter, refl, inl, inr, ⊎_elim, arith}
-use Rattle.std.specs.List.{ContainsAt as Has, AllByRecursion as All}
+use Rattle.std.specs.List.{ContainsAt as Has, AllByRecursion}
 use Rattle.std.proofs.ByRecursion.{All-get_or, All-weaker}
 use Rattle.patterns.specs.Numbers.{keep}
 use Rattle.patterns.specs.Sequences.{sum}
 
-pub all_each : {A : Type 0} {P Q : A → Type 0} → ((a : A) → P a → Q a) → (xs : List A) → All P xs → All Q xs
+pub all_each : {A : Type 0} {P Q : A → Type 0} → ((a : A) → P a → Q a) → (xs : List A) → AllByRecursion P xs → AllByRecursion Q xs
 all_each {A} {P} {Q} f xs ok = All-weaker P Q f xs ok
 
-pub all_both : {A : Type 0} (P Q : A → Type 0) (xs : List A) → All P xs → All Q xs → All (λ (a : A). P a × Q a) xs
+pub all_both : {A : Type 0} (P Q : A → Type 0) (xs : List A) → AllByRecursion P xs → AllByRecursion Q xs → AllByRecursion (λ (a : A). P a × Q a) xs
 all_both P Q [] a b = tt
 all_both P Q (x ∷ xs) a b = ((a.0, b.0), all_both P Q xs a.1 b.1)
 
 -- R holds of each element and each later one
 abbrev pub Pairs : {A : Type 0} → (A → A → Type 0) → List A → Type 0
 Pairs R [] = Unit {0}
-Pairs R (x ∷ xs) = All (R x) xs × Pairs R xs
+Pairs R (x ∷ xs) = AllByRecursion (R x) xs × Pairs R xs
 
 pub pairs_at : {A : Type 0} (R : A → A → Type 0) (xs : List A) → Pairs R xs → (i j : ℕ) (d : A) → i < j → j < length xs → R (get_or xs i d) (get_or xs j d)
 pairs_at R [] ok i j d lt h = absurd (omega arith)
@@ -23,8 +23,8 @@ pairs_at R (x ∷ xs) ok i zero d lt h = absurd (omega arith)
 pairs_at R (x ∷ xs) ok zero (suc j) d lt h = All-get_or (R x) xs j d (omega arith) ok.0
 pairs_at R (x ∷ xs) ok (suc i) (suc j) d lt h = pairs_at R xs ok.1 i j d (omega arith) (omega arith)
 
-pub both_at : {A : Type 0} (R : A → A → Type 0) (xs : List A) → All (λ (a : A). All (R a) xs) xs → (i j : ℕ) (d : A) → i < length xs → j < length xs → R (get_or xs i d) (get_or xs j d)
-both_at {A} R xs ok i j d il jl = All-get_or (R (get_or xs i d)) xs j d jl (All-get_or (λ (a : A). All (R a) xs) xs i d il ok)
+pub both_at : {A : Type 0} (R : A → A → Type 0) (xs : List A) → AllByRecursion (λ (a : A). AllByRecursion (R a) xs) xs → (i j : ℕ) (d : A) → i < length xs → j < length xs → R (get_or xs i d) (get_or xs j d)
+both_at {A} R xs ok i j d il jl = All-get_or (R (get_or xs i d)) xs j d jl (All-get_or (λ (a : A). AllByRecursion (R a) xs) xs i d il ok)
 
 -- ---- sums
 
@@ -43,11 +43,11 @@ pub data In {A : Type 0} (a : A) : List A → Type 0 where
   there : {x : A} {xs : List A} → In a xs → In a (x ∷ xs)
 
 -- from each that is in the list, and back
-pub all_in : {A : Type 0} (P : A → Type 0) (xs : List A) → ((a : A) → In a xs → P a) → All P xs
+pub all_in : {A : Type 0} (P : A → Type 0) (xs : List A) → ((a : A) → In a xs → P a) → AllByRecursion P xs
 all_in P [] f = tt
 all_in P (x ∷ xs) f = (f x here, all_in P xs (λ a i. f a (there i)))
 
-pub in_all : {A : Type 0} (P : A → Type 0) {a : A} {xs : List A} → In a xs → All P xs → P a
+pub in_all : {A : Type 0} (P : A → Type 0) {a : A} {xs : List A} → In a xs → AllByRecursion P xs → P a
 in_all P here ok = ok.0
 in_all P (there i) ok = in_all P i ok.1
 
@@ -80,7 +80,7 @@ join_right (x ∷ xs) i = there (join_right xs i)
 
 -- ---- what a test keeps
 
-pub all_keep : {A : Type 0} (P : A → Type 0) (b : Bool) (a : A) (rest : List A) → (b ≡ true → P a) → All P rest → All P (keep b a rest)
+pub all_keep : {A : Type 0} (P : A → Type 0) (b : Bool) (a : A) (rest : List A) → (b ≡ true → P a) → AllByRecursion P rest → AllByRecursion P (keep b a rest)
 all_keep P true a rest first later = (first refl, later)
 all_keep P false a rest first later = later
 
@@ -99,6 +99,6 @@ module _ {A : Type 0} (test : A → Bool) where
   in_kept_by (there {x = x} {xs = xs} i) e = in_keep (test x) x (filter test xs) (in_kept_by i e)
 
   -- what stays passed the test
-  pub all_tested : (P : A → Type 0) (xs : List A) → All P xs → All (λ (a : A). P a × (test a ≡ true)) (filter test xs)
+  pub all_tested : (P : A → Type 0) (xs : List A) → AllByRecursion P xs → AllByRecursion (λ (a : A). P a × (test a ≡ true)) (filter test xs)
   all_tested P [] ok = tt
   all_tested P (x ∷ xs) ok = all_keep (λ (a : A). P a × (test a ≡ true)) (test x) x (filter test xs) (λ e. (ok.0, e)) (all_tested P xs ok.1)

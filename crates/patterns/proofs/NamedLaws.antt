@@ -1,6 +1,6 @@
 -- The two named rules keep the laws of a cutting rule.
 use Rattle.std.proofs.Common.{◌≡◌, ℕ, ◌+◌, ◌-◌, ◌<◌, ◌≤◌, List, [], ◌∷◌, ◌++◌, sym, ap, ◌∙◌, subst, arith}
-use Rattle.std.specs.List.{AllByRecursion as All}
+use Rattle.std.specs.List.{AllByRecursion}
 use Rattle.std.proofs.lemmas.Bool.{ltb-false}
 use Rattle.std.proofs.lemmas.List.{append-nil}
 use Rattle.std.proofs.ByRecursion.{All-append}
@@ -32,13 +32,13 @@ some_size : (m : Model) → WithinLimits m → (r : Row) → Placed (shape m) r 
 some_size m ok r p = let z = sizes m ok r p in (omega arith, omega arith)
 
 -- a segment 0, and what may follow it
-in_order : (m : Model) (lo l : ℕ) (more : List Row) → ((q : Row) (before : List Row) → q.segment ≡ 0 → GoesOn (shape m) q before more) → (st : Strip ℕ) (sts : List (Strip ℕ)) → All (Ready m l) (st ∷ sts) → InOrder (shape m) (lay 0 0 lo 0 (st ∷ sts) ++ more)
+in_order : (m : Model) (lo l : ℕ) (more : List Row) → ((q : Row) (before : List Row) → q.segment ≡ 0 → GoesOn (shape m) q before more) → (st : Strip ℕ) (sts : List (Strip ℕ)) → AllByRecursion (Ready m l) (st ∷ sts) → InOrder (shape m) (lay 0 0 lo 0 (st ∷ sts) ++ more)
 in_order m lo l more then st sts ok =
     let b = begins m 0 lo l more then st sts ok in
     subst (InOrder (shape m)) (sym b.is) (record { segment = b.segment; strip = b.strip; next = b.next })
 
 -- a segment 0 alone
-alone : (m : Model) (lo l : ℕ) (sts : List (Strip ℕ)) → All (Ready m l) sts → InOrder (shape m) (lay 0 0 lo 0 sts)
+alone : (m : Model) (lo l : ℕ) (sts : List (Strip ℕ)) → AllByRecursion (Ready m l) sts → InOrder (shape m) (lay 0 0 lo 0 sts)
 alone m lo l [] ok = tt
 alone m lo l (st ∷ sts) ok = subst (InOrder (shape m)) (append-nil (lay 0 0 lo 0 (st ∷ sts))) (in_order m lo l [] (λ q before e. ends) st sts ok)
 
@@ -61,7 +61,7 @@ module _ (m : Model) (ok : WithinLimits m) where
       worth_sum m (two_staged_pattern by_value m) ∙ worth_lay m 0 0 0 0 m.length (two_staged_segment by_value m).strips b.each ∙ b.worth_is
 
 -- rows of segments 0 and 1 are numbered within the limits
-few_numbered : (m : Model) → WithinLimits m → (rows : List Row) → All (Placed (shape m)) rows → InOrder (shape m) rows → All (λ (r : Row). r.segment ≤ 1) rows → All Numbered rows
+few_numbered : (m : Model) → WithinLimits m → (rows : List Row) → AllByRecursion (Placed (shape m)) rows → InOrder (shape m) rows → AllByRecursion (λ (r : Row). r.segment ≤ 1) rows → AllByRecursion Numbered rows
 few_numbered m ok rows placed order two =
     all_both (λ (r : Row). r.segment ≤ 7) (λ (r : Row). r.strip ≤ 63) rows (all_each (λ r e. omega arith) rows two) (strip_numbers (shape m) ok.plate.0 ok.plate.1 (sizes m ok) rows placed order)
 
@@ -83,8 +83,8 @@ two_staged_laws =
 
 -- ---- three-staged
 
-each_two : (R : Row → Row → Type 0) (P : Row → Type 0) (rows : List Row) → ((q r : Row) → P q → P r → R q r) → All P rows → EachTwo R rows
-each_two R P rows f ok = all_in (λ (q : Row). All (R q) rows) rows (λ q i. all_in (R q) rows (λ r j. f q r (in_all P i ok) (in_all P j ok)))
+each_two : (R : Row → Row → Type 0) (P : Row → Type 0) (rows : List Row) → ((q r : Row) → P q → P r → R q r) → AllByRecursion P rows → EachTwo R rows
+each_two R P rows f ok = all_in (λ (q : Row). AllByRecursion (R q) rows) rows (λ q i. all_in (R q) rows (λ r j. f q r (in_all P i ok) (in_all P j ok)))
 
 -- a row of segment 0, left of c, or of segment 1, right of c; and the number that its strip is made of
 data Side (s : Shape) (c : ℕ) (lows highs : ℕ → Oriented) (r : Row) : Type 0 where
@@ -116,7 +116,7 @@ module _ (s : Shape) (c : ℕ) (lows highs : ℕ → Oriented) where
   side_alike q r (high p e x b) (low p' e' x' b') g n = absurd (omega arith)
   side_alike q r (high p e x b) (high p' e' x' b') g n = one_sort highs q r b b' n
 
-  sided : (rows : List Row) → InOrder s rows → All (Side s c lows highs) rows → ThreeStagedSet s rows
+  sided : (rows : List Row) → InOrder s rows → AllByRecursion (Side s c lows highs) rows → ThreeStagedSet s rows
   sided rows order ok =
       record {
         placed = all_each side_placed rows ok;
@@ -128,14 +128,14 @@ module _ (s : Shape) (c : ℕ) (lows highs : ℕ → Oriented) where
 
 module _ (m : Model) where
   -- segment 1, after a row of segment 0
-  right_goes : (c l : ℕ) (sts : List (Strip ℕ)) → All (Ready m l) sts → (q : Row) (before : List Row) → q.segment ≡ 0 → GoesOn (shape m) q before (lay 1 0 c 0 sts)
+  right_goes : (c l : ℕ) (sts : List (Strip ℕ)) → AllByRecursion (Ready m l) sts → (q : Row) (before : List Row) → q.segment ≡ 0 → GoesOn (shape m) q before (lay 1 0 c 0 sts)
   right_goes c l [] ok q before e = ends
   right_goes c l (st ∷ sts) ok q before e =
       let b = begins m 1 c l [] (λ p earlier f. ends) st sts ok in
       subst (GoesOn (shape m) q before) (sym b.is ∙ append-nil (lay 1 0 c 0 (st ∷ sts))) (segment (record { segment = omega (arith, b.segment); strip = b.strip }) b.next)
 
   -- two segments of uniform strips that fit the plate
-  side_by_side_member : (c : ℕ) → c ≤ m.length → (left right : List (Strip ℕ)) → All (λ (st : Strip ℕ). Ready m c st × Uniform st) left → All (λ (st : Strip ℕ). Ready m (m.length - c) st × Uniform st) right
+  side_by_side_member : (c : ℕ) → c ≤ m.length → (left right : List (Strip ℕ)) → AllByRecursion (λ (st : Strip ℕ). Ready m c st × Uniform st) left → AllByRecursion (λ (st : Strip ℕ). Ready m (m.length - c) st × Uniform st) right
       → sum (λ (st : Strip ℕ). st.across) left ≤ m.width → sum (λ (st : Strip ℕ). st.across) right ≤ m.width → ThreeStagedSet (shape m) (side_by_side c left right)
   side_by_side_member c within [] right a b ha hb =
       let ready = all_each (λ st x. x.0) right b in
@@ -156,7 +156,7 @@ module _ (m : Model) where
       (all_each (λ r x. high x.0.placed x.0.segment x.0.left x.1) (lay 1 0 c 0 right)
       (all_both (Laid (shape m) 1 c (m.length - c)) (Belongs 0 highs) (lay 1 0 c 0 right) (laid m 1 c (m.length - c) (omega arith) 0 0 right ready_b (omega arith)) (belong 1 0 c 0 right (all_each (λ st x. x.1) right b)))))
 
-  side_by_side_worth : (c l : ℕ) (left right : List (Strip ℕ)) → All (Ready m c) left → All (Ready m l) right → worth m (side_by_side c left right) ≡ sum (λ (st : Strip ℕ). st.worth) left + sum (λ (st : Strip ℕ). st.worth) right
+  side_by_side_worth : (c l : ℕ) (left right : List (Strip ℕ)) → AllByRecursion (Ready m c) left → AllByRecursion (Ready m l) right → worth m (side_by_side c left right) ≡ sum (λ (st : Strip ℕ). st.worth) left + sum (λ (st : Strip ℕ). st.worth) right
   side_by_side_worth c l [] right a b = worth_sum m (lay 0 0 c 0 right) ∙ worth_lay m 0 0 c 0 l right b ∙ omega arith
   side_by_side_worth c l (st ∷ sts) right a b =
       let e = worth_sum m (lay 0 0 0 0 (st ∷ sts) ++ lay 1 0 c 0 right) in

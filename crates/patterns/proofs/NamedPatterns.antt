@@ -1,6 +1,6 @@
 -- The named patterns in the words of the rules: they are so, and no other list is.
 use Rattle.std.proofs.Common.{◌≡◌, ℕ, ◌-◌, ◌<◌, ◌≤◌, leb, List, [], ◌∷◌, map, replicate, sym, refl, ap, ◌∙◌, subst, inl, inr, mul_comm, le-div_iff_mul-le, arith}
-use Rattle.std.specs.List.{AllByRecursion as All}
+use Rattle.std.specs.List.{AllByRecursion}
 use Rattle.std.proofs.lemmas.Bool.{ltb-true, ltb-false, cases_order}
 use Rattle.layout.specs.declared.row.Row.{Row}
 use Rattle.layout.specs.Tasks.{Model, WithinLimits}
@@ -201,7 +201,7 @@ module _ (m : Model) (ok : WithinLimits m) where
 
 -- ---- where nothing counts
 
-none_usable : (P : Oriented → Type 0) → ((q : Oriented) → P q → ⊥) → (qs : List Oriented) → All P qs → qs ≡ []
+none_usable : (P : Oriented → Type 0) → ((q : Oriented) → P q → ⊥) → (qs : List Oriented) → AllByRecursion P qs → qs ≡ []
 none_usable P never [] ok = refl
 none_usable P never (q ∷ qs) ok = absurd (never q ok.0)
 

@@ -1,7 +1,7 @@
 -- The published recursions give the worth of the named patterns.
 use Rattle.std.proofs.Common.{◌≡◌, ℕ, zero, suc, ◌-◌, ◌*◌, ◌/◌, ◌<◌, ◌≤◌, ◌⊎◌, List, [], ◌∷◌, map, length, get_or, take, sym, refl, ap, ◌∙◌, subst, inl, inr, ⊎_elim, mul-zero, arith}
 use native.Mathlib.Decide.{dec_le, dec_lt}
-use Rattle.std.specs.List.{AllByRecursion as All}
+use Rattle.std.specs.List.{AllByRecursion}
 use Rattle.std.proofs.ByRecursion.{All-from_get_or, All-get_or, All-map}
 use Rattle.std.proofs.lemmas.List.{length-take-le, get_or-take}
 use Rattle.std.proofs.lemmas.Bool.{ltb-true, ltb-false}
@@ -72,12 +72,12 @@ module _ (m : Model) (ok : WithinLimits m) where
 
     stack_worth : (F : ℕ → ℕ) → Stacking Offer F → F m.width ≡ worth m (two_staged_pattern by_value m)
     stack_worth F keeps =
-        stacks as_strip (preferred (numbers m)) (subst (All Fine) fused (two_fine m ok)) Offer strip_each strip_under F keeps m.width
+        stacks as_strip (preferred (numbers m)) (subst (AllByRecursion Fine) fused (two_fine m ok)) Offer strip_each strip_under F keeps m.width
         ∙ ap (λ cs. most plain cs m.width) (sym fused)
         ∙ sym (two_staged_worth m ok)
 
     stack_some : Stacking Offer (most plain (map as_strip (preferred (numbers m))))
-    stack_some = most_stacks as_strip (preferred (numbers m)) (subst (All Fine) fused (two_fine m ok)) Offer strip_each strip_under
+    stack_some = most_stacks as_strip (preferred (numbers m)) (subst (AllByRecursion Fine) fused (two_fine m ok)) Offer strip_each strip_under
 
   by_length : (fq : Oriented → ℕ → ℕ) (F : ℕ → ℕ) → ByLength m fq F → F m.width ≡ worth m (two_staged_pattern by_value m)
   by_length fq F keeps =
@@ -107,7 +107,7 @@ module _ (m : Model) (ok : WithinLimits m) where
     place_counted : (k : ℕ) → k < length qs → Counted m (get_or qs k no_piece)
     place_counted k h = All-get_or (Counted m) qs k no_piece h order.only
 
-    all_fine : All Fine (map (by_along by_value) qs)
+    all_fine : AllByRecursion Fine (map (by_along by_value) qs)
     all_fine = All-map Fine (by_along by_value) qs (all_each (λ q c. let z = sizeable m ok q c in (omega (arith, z.along_least), z.value_least)) qs order.only)
 
     -- the numbers up to a place are no wider than the one that stands there
@@ -276,13 +276,13 @@ module _ (m : Model) (ok : WithinLimits m) where
 
     segment_stacks : (G : ℕ → ℕ) → Stacking (UniformOffer m c) G → (y : ℕ) → G y ≡ most plain (uniform_strips c (numbers m)) y
     segment_stacks G keeps y =
-        stacks as_uniform (no_longer c (preferred (numbers m))) (subst (All Fine) fused_uniform (uniform_fine c (numbers m) (all_sizeable m ok))) (UniformOffer m c) uniform_each uniform_under G keeps y
+        stacks as_uniform (no_longer c (preferred (numbers m))) (subst (AllByRecursion Fine) fused_uniform (uniform_fine c (numbers m) (all_sizeable m ok))) (UniformOffer m c) uniform_each uniform_under G keeps y
         ∙ ap (λ cs. most plain cs y) (sym fused_uniform)
 
   some_by_segment : (G : ℕ → ℕ → ℕ) × BySegment m G
   some_by_segment = (
     λ c. most plain (map (as_uniform c) (no_longer c (preferred (numbers m)))),
-    λ c h. most_stacks (as_uniform c) (no_longer c (preferred (numbers m))) (subst (All Fine) (fused_uniform c) (uniform_fine c (numbers m) (all_sizeable m ok))) (UniformOffer m c) (uniform_each c) (uniform_under c),
+    λ c h. most_stacks (as_uniform c) (no_longer c (preferred (numbers m))) (subst (AllByRecursion Fine) (fused_uniform c) (uniform_fine c (numbers m) (all_sizeable m ok))) (UniformOffer m c) (uniform_each c) (uniform_under c),
   )
 
   module _ (G : ℕ → ℕ → ℕ) (keeps : BySegment m G) where

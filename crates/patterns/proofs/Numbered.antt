@@ -1,6 +1,6 @@
 -- The numbers of a task are those that count, each once and the lowest first; and the rows of a plate are such numbers.
 use Rattle.std.proofs.Common.{◌≡◌, ℕ, zero, suc, ◌+◌, ◌*◌, ◌<◌, ◌≤◌, Bool, true, false, ◌&&◌, leb, ◌⊎◌, List, [], ◌∷◌, length, get_or, filter, sym, refl, ap, ◌∙◌, subst, inl, inr, add-zero, arith}
-use Rattle.std.specs.List.{AllByRecursion as All}
+use Rattle.std.specs.List.{AllByRecursion}
 use Rattle.std.proofs.lemmas.Bool.{leb-true, le-leb, and_parts}
 use Rattle.std.proofs.ByRecursion.{all_kept_by}
 use Rattle.layout.specs.declared.panel.Panel.{Panel}
@@ -36,7 +36,7 @@ module _ (m : Model) where
         across_most = leb-true (across k.panel t) m.width f.1;
       }
 
-  counted_from : (n : ℕ) (ks : List Kind) → ((i : ℕ) → i < length ks → (n + i < length m.kinds) × (get_or m.kinds (n + i) no_kind ≡ get_or ks i no_kind)) → All (Counted m) (numbers_from m.length m.width n ks)
+  counted_from : (n : ℕ) (ks : List Kind) → ((i : ℕ) → i < length ks → (n + i < length m.kinds) × (get_or m.kinds (n + i) no_kind ≡ get_or ks i no_kind)) → AllByRecursion (Counted m) (numbers_from m.length m.width n ks)
   counted_from n [] part = tt
   counted_from n (k ∷ ks) part =
       all_keep (Counted m) (counts m.length m.width k true (oriented n 0 k)) (oriented n 0 k) (keep (counts m.length m.width k k.panel.may_turn (oriented n 1 k)) (oriented n 1 k) (numbers_from m.length m.width (suc n) ks))
@@ -51,7 +51,7 @@ module _ (m : Model) where
       is : get_or m.kinds n no_kind ≡ k
       is = sym (ap (λ j. get_or m.kinds j no_kind) (add-zero n)) ∙ (part 0 (omega arith)).1
 
-  pub numbers_counted : All (Counted m) (numbers m)
+  pub numbers_counted : AllByRecursion (Counted m) (numbers m)
   numbers_counted = counted_from 0 m.kinds (λ i h. let e : 0 + i ≡ i = omega arith in (omega arith, ap (λ j. get_or m.kinds j no_kind) e))
 
 -- ---- every number that counts is in the list
@@ -99,14 +99,14 @@ abbrev pub Lower : Oriented → Oriented → Type 0
 Lower a b = number a < number b
 
 -- those of the kinds from n on
-above_from : (l w n : ℕ) (ks : List Kind) → All (λ (o : Oriented). 2 * n ≤ number o) (numbers_from l w n ks)
+above_from : (l w n : ℕ) (ks : List Kind) → AllByRecursion (λ (o : Oriented). 2 * n ≤ number o) (numbers_from l w n ks)
 above_from l w n [] = tt
 above_from l w n (k ∷ ks) =
     all_keep (λ (o : Oriented). 2 * n ≤ number o) (counts l w k true (oriented n 0 k)) (oriented n 0 k) (keep (counts l w k k.panel.may_turn (oriented n 1 k)) (oriented n 1 k) (numbers_from l w (suc n) ks)) (λ _. omega arith)
     (all_keep (λ (o : Oriented). 2 * n ≤ number o) (counts l w k k.panel.may_turn (oriented n 1 k)) (oriented n 1 k) (numbers_from l w (suc n) ks) (λ _. omega arith)
     (all_each (λ o h. omega arith) (numbers_from l w (suc n) ks) (above_from l w (suc n) ks)))
 
-pairs_keep : {A : Type 0} (R : A → A → Type 0) (b : Bool) (a : A) (rest : List A) → All (R a) rest → Pairs R rest → Pairs R (keep b a rest)
+pairs_keep : {A : Type 0} (R : A → A → Type 0) (b : Bool) (a : A) (rest : List A) → AllByRecursion (R a) rest → Pairs R rest → Pairs R (keep b a rest)
 pairs_keep R true a rest first later = (first, later)
 pairs_keep R false a rest first later = later
 

@@ -1,6 +1,6 @@
 -- How each two rows of a list in order stand to one another.
 use Rattle.std.proofs.Common.{◌≡◌, ℕ, ◌<◌, ◌≤◌, List, [], ◌∷◌, refl, arith}
-use Rattle.std.specs.List.{AllByRecursion as All}
+use Rattle.std.specs.List.{AllByRecursion}
 use Rattle.layout.specs.declared.row.Row.{Row}
 use Rattle.layout.specs.Pieces.{end, top}
 use Rattle.layout.specs.Tasks.{Shape, panels}
@@ -16,14 +16,14 @@ pub data Stand (s : Shape) (a b : Row) : Type 0 where
 
 module _ (s : Shape) where
   -- a row of an earlier segment
-  from_aside : (a p : Row) (earlier rows : List Row) → a.segment < p.segment → GoesOn s p earlier rows → All (Stand s a) rows
+  from_aside : (a p : Row) (earlier rows : List Row) → a.segment < p.segment → GoesOn s p earlier rows → AllByRecursion (Stand s a) rows
   from_aside a p earlier [] lt ends = tt
   from_aside a p earlier (r ∷ rows) lt (same t g) = (aside (omega (arith, t.segment)), from_aside a r (p ∷ earlier) rows (omega (arith, t.segment)) g)
   from_aside a p earlier (r ∷ rows) lt (strip t g) = (aside (omega (arith, t.segment)), from_aside a r [] rows (omega (arith, t.segment)) g)
   from_aside a p earlier (r ∷ rows) lt (segment t g) = (aside (omega (arith, t.segment)), from_aside a r [] rows (omega (arith, t.segment)) g)
 
   -- a row of a lower strip
-  from_below : (a p : Row) (earlier rows : List Row) → a.segment ≡ p.segment → a.strip < p.strip → top (panels s) a ≤ p.y → GoesOn s p earlier rows → All (Stand s a) rows
+  from_below : (a p : Row) (earlier rows : List Row) → a.segment ≡ p.segment → a.strip < p.strip → top (panels s) a ≤ p.y → GoesOn s p earlier rows → AllByRecursion (Stand s a) rows
   from_below a p earlier [] e lt low ends = tt
   from_below a p earlier (r ∷ rows) e lt low (same t g) =
       (below (omega (arith, t.segment)) (omega (arith, t.strip)) (omega (arith, t.level)), from_below a r (p ∷ earlier) rows (omega (arith, t.segment)) (omega (arith, t.strip)) (omega (arith, t.level)) g)
@@ -32,7 +32,7 @@ module _ (s : Shape) where
   from_below a p earlier (r ∷ rows) e lt low (segment t g) = (aside (omega (arith, t.segment)), from_aside a r [] rows (omega (arith, t.segment)) g)
 
   -- a row of the strip at hand: what is above every piece of the strip is above it
-  from_strip : (a p : Row) (earlier rows : List Row) → a.segment ≡ p.segment → a.strip ≡ p.strip → a.y ≡ p.y → end (panels s) a ≤ end (panels s) p → ((y : ℕ) → All (λ (q : Row). top (panels s) q ≤ y) (p ∷ earlier) → top (panels s) a ≤ y) → GoesOn s p earlier rows → All (Stand s a) rows
+  from_strip : (a p : Row) (earlier rows : List Row) → a.segment ≡ p.segment → a.strip ≡ p.strip → a.y ≡ p.y → end (panels s) a ≤ end (panels s) p → ((y : ℕ) → AllByRecursion (λ (q : Row). top (panels s) q ≤ y) (p ∷ earlier) → top (panels s) a ≤ y) → GoesOn s p earlier rows → AllByRecursion (Stand s a) rows
   from_strip a p earlier [] e f h x tops ends = tt
   from_strip a p earlier (r ∷ rows) e f h x tops (same t g) = (
     before (omega (arith, t.segment)) (omega (arith, t.strip)) (omega (arith, t.level)) (omega (arith, t.beyond)),
@@ -42,7 +42,7 @@ module _ (s : Shape) where
       (below (omega (arith, t.segment)) (omega (arith, t.strip)) (tops r.y t.above), from_below a r [] rows (omega (arith, t.segment)) (omega (arith, t.strip)) (tops r.y t.above) g)
   from_strip a p earlier (r ∷ rows) e f h x tops (segment t g) = (aside (omega (arith, t.segment)), from_aside a r [] rows (omega (arith, t.segment)) g)
 
-  own : (p : Row) (earlier rows : List Row) → GoesOn s p earlier rows → All (Stand s p) rows
+  own : (p : Row) (earlier rows : List Row) → GoesOn s p earlier rows → AllByRecursion (Stand s p) rows
   own p earlier rows g = from_strip p p earlier rows refl refl refl (omega arith) (λ y all. all.0) g
 
   pairs_on : (p : Row) (earlier rows : List Row) → GoesOn s p earlier rows → Pairs (Stand s) (p ∷ rows)

@@ -1,6 +1,6 @@
 -- Whatever keeps to a published recursion gives the greatest worth of the candidates that it goes over.
 use Rattle.std.proofs.Common.{◌≡◌, ℕ, zero, suc, ◌+◌, ◌-◌, ◌<◌, ◌≤◌, Bool, true, false, cond, ltb, leb, ◌⊎◌, List, [], ◌∷◌, ◌++◌, map, length, get_or, take, sym, refl, ap, ◌∙◌, subst, inl, inr, ⊎_elim, arith}
-use Rattle.std.specs.List.{AllByRecursion as All}
+use Rattle.std.specs.List.{AllByRecursion}
 use Rattle.std.proofs.ByRecursion.{All-take}
 use Rattle.std.proofs.lemmas.List.{length-map, take-map, take_more}
 use Rattle.std.proofs.lemmas.Bool.{leb-true, leb-false, ltb-true, ltb-false}
@@ -36,7 +36,7 @@ record Led (f : Oriented → Candidate ℕ) (xs : List Oriented) (y : ℕ) : Typ
   worth_is : most plain (map f xs) y ≡ (f which).worth + most plain (map f xs) (y - (f which).size)
 
 -- the best is worth nothing, or begins with a candidate
-led : (f : Oriented → Candidate ℕ) (xs : List Oriented) → All Fine (map f xs) → (y : ℕ) → (most plain (map f xs) y ≡ 0) ⊎ Led f xs y
+led : (f : Oriented → Candidate ℕ) (xs : List Oriented) → AllByRecursion Fine (map f xs) → (y : ℕ) → (most plain (map f xs) y ≡ 0) ⊎ Led f xs y
 led f xs fine y =
     ⊎_elim (λ n. inl (ap (λ (c : Choice ℕ). c.worth) n.is))
     (λ l.
@@ -53,7 +53,7 @@ led f xs fine y =
 -- ---- one unit at a time
 
 -- Each candidate is an offer, and each offer takes room and is worth nothing or no more than a candidate that is no larger.
-module _ (f : Oriented → Candidate ℕ) (xs : List Oriented) (fine : All Fine (map f xs)) (Offer : ℕ → ℕ → Type 0)
+module _ (f : Oriented → Candidate ℕ) (xs : List Oriented) (fine : AllByRecursion Fine (map f xs)) (Offer : ℕ → ℕ → Type 0)
     (each : (x : Oriented) → In x xs → Offer (f x).size (f x).worth)
     (under : (b w : ℕ) → Offer b w → (1 ≤ b) × ((w ≡ 0) ⊎ ((x : Oriented) × In x xs × ((f x).size ≤ b) × (w ≤ (f x).worth)))) where
   -- an offer and the best of the room that it leaves
@@ -122,7 +122,7 @@ one_of a x u v n (is, above) = by (leb a x) refl
     by true e = both (leb-true a x e) (ltb u v) refl
     by false e = let lt = leb-false a x e in ⊎_elim (λ z. z) (λ z. absurd (omega (arith, z.0))) is
 
-module _ (qs : List Oriented) (fine : All Fine (map (by_along by_value) qs)) (f : ℕ → ℕ → ℕ) (admitting : Admitting qs f) where
+module _ (qs : List Oriented) (fine : AllByRecursion Fine (map (by_along by_value) qs)) (f : ℕ → ℕ → ℕ) (admitting : Admitting qs f) where
   admission : Admission plain (map (by_along by_value) qs) f
   admission = record {
     start = admitting.start;
@@ -143,12 +143,12 @@ module _ (qs : List Oriented) (fine : All Fine (map (by_along by_value) qs)) (f 
 
 -- ---- the greatest worth of the first k numbers keeps to that recursion too
 
-module _ (qs : List Oriented) (fine : All Fine (map (by_along by_value) qs)) where
+module _ (qs : List Oriented) (fine : AllByRecursion Fine (map (by_along by_value) qs)) where
   abbrev front_most : ℕ → ℕ → ℕ
   front_most k x = most plain (map (by_along by_value) (take k qs)) x
 
-  front_fine : (k : ℕ) → All Fine (map (by_along by_value) (take k qs))
-  front_fine k = subst (All Fine) (take-map (by_along by_value) k qs) (All-take Fine k (map (by_along by_value) qs) fine)
+  front_fine : (k : ℕ) → AllByRecursion Fine (map (by_along by_value) (take k qs))
+  front_fine k = subst (AllByRecursion Fine) (take-map (by_along by_value) k qs) (All-take Fine k (map (by_along by_value) qs) fine)
 
   module _ (k : ℕ) (known : k < length qs) where
     abbrev new : Oriented

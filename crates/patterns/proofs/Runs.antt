@@ -1,6 +1,6 @@
 -- A list in order, strip by strip: how much of anything that adds up it can hold.
 use Rattle.std.proofs.Common.{◌≡◌, ℕ, ◌+◌, ◌≤◌, List, [], ◌∷◌, sym, refl, ap, ◌∙◌, arith}
-use Rattle.std.specs.List.{AllByRecursion as All}
+use Rattle.std.specs.List.{AllByRecursion}
 use Rattle.layout.specs.declared.row.Row.{Row}
 use Rattle.layout.specs.Pieces.{end, top}
 use Rattle.layout.specs.Tasks.{Shape, panels}
@@ -13,8 +13,8 @@ use Rattle.patterns.proofs.Sizes.{along_of}
 
 -- The strip at hand, up to the row p: its pieces lie from lo on, at one height, side by side.
 pub record Run (s : Shape) (lo : ℕ) (p : Row) (earlier : List Row) : Type 0 where
-  pub placed : All (Placed s) (p ∷ earlier)
-  pub level : All (λ (q : Row). (q.y ≡ p.y) × (q.segment ≡ p.segment) × (q.strip ≡ p.strip)) (p ∷ earlier)
+  pub placed : AllByRecursion (Placed s) (p ∷ earlier)
+  pub level : AllByRecursion (λ (q : Row). (q.y ≡ p.y) × (q.segment ≡ p.segment) × (q.strip ≡ p.strip)) (p ∷ earlier)
   pub room : lo + sum (along_of s) (p ∷ earlier) ≤ end (panels s) p
 
 pub run_one : {s : Shape} {lo : ℕ} {p : Row} → Placed s p → lo ≤ p.x → Run s lo p []
@@ -33,9 +33,9 @@ run_more {p = p} {r} {earlier} run t placed =
 -- follows in the segment comes to no more, beside what a next segment holds.
 module _ (s : Shape) (g lo : ℕ) (Each : Row → Type 0) (placed : (r : Row) → Each r → Placed s r) (left : (r : Row) → Each r → r.segment ≡ g → lo ≤ r.x)
     (v : Row → ℕ) (bound : ℕ → ℕ) (aside : ℕ)
-    (step : (p : Row) (earlier : List Row) → Run s lo p earlier → p.segment ≡ g → All Each (p ∷ earlier) → (t : ℕ) → t ≤ s.width → All (λ (q : Row). top (panels s) q ≤ t) (p ∷ earlier) → sum v (p ∷ earlier) + bound t ≤ bound p.y)
-    (next : (q r : Row) (rest : List Row) → q.segment ≡ g → NextSegment q r → GoesOn s r [] rest → All Each (r ∷ rest) → sum v (r ∷ rest) ≤ aside) where
-  pub segment_bound : (p : Row) (earlier rows : List Row) → GoesOn s p earlier rows → Run s lo p earlier → p.segment ≡ g → All Each (p ∷ earlier) → All Each rows → sum v (p ∷ earlier) + sum v rows ≤ bound p.y + aside
+    (step : (p : Row) (earlier : List Row) → Run s lo p earlier → p.segment ≡ g → AllByRecursion Each (p ∷ earlier) → (t : ℕ) → t ≤ s.width → AllByRecursion (λ (q : Row). top (panels s) q ≤ t) (p ∷ earlier) → sum v (p ∷ earlier) + bound t ≤ bound p.y)
+    (next : (q r : Row) (rest : List Row) → q.segment ≡ g → NextSegment q r → GoesOn s r [] rest → AllByRecursion Each (r ∷ rest) → sum v (r ∷ rest) ≤ aside) where
+  pub segment_bound : (p : Row) (earlier rows : List Row) → GoesOn s p earlier rows → Run s lo p earlier → p.segment ≡ g → AllByRecursion Each (p ∷ earlier) → AllByRecursion Each rows → sum v (p ∷ earlier) + sum v rows ≤ bound p.y + aside
   segment_bound p earlier [] ends run e ok each = omega (arith, step p earlier run e ok s.width (omega arith) (all_each (λ q h. h.inside_across) (p ∷ earlier) run.placed))
   segment_bound p earlier (r ∷ rows) (same t go) run e ok each =
       omega (arith, ap bound t.level, segment_bound r (p ∷ earlier) rows go (run_more run t (placed r each.0)) (t.segment ∙ e) (each.0, ok) each.1)

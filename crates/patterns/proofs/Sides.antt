@@ -1,7 +1,7 @@
 -- Where the two segments of a three-staged pattern are divided: at the greatest end of a piece of segment 0.
 use Rattle.std.proofs.Common.{◌≡◌, ℕ, ◌≤◌, max, List, [], ◌∷◌, arith}
 use native.Mathlib.Decide.{ℕ_discrete}
-use Rattle.std.specs.List.{AllByRecursion as All}
+use Rattle.std.specs.List.{AllByRecursion}
 use Rattle.layout.specs.declared.row.Row.{Row}
 use Rattle.layout.specs.Pieces.{end}
 use Rattle.layout.specs.Tasks.{Shape, panels}
@@ -12,8 +12,8 @@ use Rattle.patterns.proofs.Lists.{all_each, In, in_all, all_in}
 -- the least number that no piece of segment 0 ends beyond
 record Division (s : Shape) (rows : List Row) : Type 0 where
   place : ℕ
-  past : All (λ (r : Row). r.segment ≡ 0 → end (panels s) r ≤ place) rows
-  least : (n : ℕ) → All (λ (r : Row). r.segment ≡ 0 → end (panels s) r ≤ n) rows → place ≤ n
+  past : AllByRecursion (λ (r : Row). r.segment ≡ 0 → end (panels s) r ≤ place) rows
+  least : (n : ℕ) → AllByRecursion (λ (r : Row). r.segment ≡ 0 → end (panels s) r ≤ n) rows → place ≤ n
 
 divide : (s : Shape) (rows : List Row) → Division s rows
 divide s [] = record { place = 0; past = tt; least = λ n h. omega arith }
@@ -35,7 +35,7 @@ pub record Sided (s : Shape) (c : ℕ) (all : List Row) (r : Row) : Type 0 where
   pub left : r.segment ≡ 0 → end (panels s) r ≤ c
   pub right : r.segment ≡ 1 → c ≤ r.x
 
-pub sides : (s : Shape) (rows : List Row) → ThreeStagedSet s rows → (c : ℕ) × (c ≤ s.length) × All (Sided s c rows) rows
+pub sides : (s : Shape) (rows : List Row) → ThreeStagedSet s rows → (c : ℕ) × (c ≤ s.length) × AllByRecursion (Sided s c rows) rows
 sides s rows set =
     let d = divide s rows in (
       d.place,
@@ -45,10 +45,10 @@ sides s rows set =
         among = i;
         two = in_all (λ (q : Row). q.segment ≤ 1) i set.two;
         left = in_all (λ (q : Row). q.segment ≡ 0 → end (panels s) q ≤ d.place) i d.past;
-        right = λ e. d.least r.x (all_in (λ (q : Row). q.segment ≡ 0 → end (panels s) q ≤ r.x) rows (λ q j z. in_all (Beside s q) i (in_all (λ (b : Row). All (Beside s b) rows) j set.beside) z e));
+        right = λ e. d.least r.x (all_in (λ (q : Row). q.segment ≡ 0 → end (panels s) q ≤ r.x) rows (λ q j z. in_all (Beside s q) i (in_all (λ (b : Row). AllByRecursion (Beside s b) rows) j set.beside) z e));
       }),
     )
 
 -- two rows of a strip are alike
 pub alike : (s : Shape) (rows : List Row) → ThreeStagedSet s rows → (q r : Row) → In q rows → In r rows → Alike q r
-alike s rows set q r i j = in_all (Alike q) j (in_all (λ (b : Row). All (Alike b) rows) i set.alike)
+alike s rows set q r i j = in_all (Alike q) j (in_all (λ (b : Row). AllByRecursion (Alike b) rows) i set.alike)

@@ -1,7 +1,7 @@
 -- No pattern of either set is worth more than the best choice of strips.
 use Rattle.std.proofs.Common.{◌≡◌, ℕ, suc, ◌+◌, ◌-◌, ◌*◌, ◌/◌, ◌≤◌, List, [], ◌∷◌, sym, refl, ap, mul-le-mul_right, suc-mul, le-div_iff_mul-le, zero-mul, arith}
 use native.Mathlib.Decide.{dec_le}
-use Rattle.std.specs.List.{AllByRecursion as All}
+use Rattle.std.specs.List.{AllByRecursion}
 use Rattle.layout.specs.declared.row.Row.{Row}
 use Rattle.layout.specs.Pieces.{end, top}
 use Rattle.layout.specs.Tasks.{Model, Shape, WithinLimits, shape, panels, value_of, worth}
@@ -27,7 +27,7 @@ worth_sum m (r ∷ rows) = omega (arith, worth_sum m rows)
 record Tallest (s : Shape) (rows : List Row) : Type 0 where
   which : Row
   among : In which rows
-  tall : All (λ (r : Row). across_of s r ≤ across_of s which) rows
+  tall : AllByRecursion (λ (r : Row). across_of s r ≤ across_of s which) rows
 
 tallest : (s : Shape) (p : Row) (earlier : List Row) → Tallest s (p ∷ earlier)
 tallest s p [] = record { which = p; among = here; tall = (omega arith, tt) }
@@ -40,10 +40,10 @@ tallest s p (q ∷ earlier) = by (tallest s q earlier)
     ]
 
 module _ (m : Model) (ok : WithinLimits m) where
-  pub all_sizeable : All Sizeable (numbers m)
+  pub all_sizeable : AllByRecursion Sizeable (numbers m)
   all_sizeable = all_each (λ o c. sizeable m ok o c) (numbers m) (numbers_counted m)
 
-  pub two_fine : All Fine (general_strips m.length (numbers m))
+  pub two_fine : AllByRecursion Fine (general_strips m.length (numbers m))
   two_fine = strips_fine m.length (numbers m) all_sizeable (all_each (λ o c. c.along_most) (numbers m) (numbers_counted m))
 
   -- ---- two-staged
@@ -55,7 +55,7 @@ module _ (m : Model) (ok : WithinLimits m) where
     size_is : total_size (strip_pieces (numbers m) h) order ≡ sum (along_of (shape m)) rows
     worth_is : total_worth plain (strip_pieces (numbers m) h) order ≡ sum (value_of m) rows
 
-  sequence : (h : ℕ) (rows : List Row) → All (Placed (shape m)) rows → All (λ (r : Row). across_of (shape m) r ≤ h) rows → Sequence h rows
+  sequence : (h : ℕ) (rows : List Row) → AllByRecursion (Placed (shape m)) rows → AllByRecursion (λ (r : Row). across_of (shape m) r ≤ h) rows → Sequence h rows
   sequence h [] p a = record { order = []; known = tt; size_is = refl; worth_is = refl }
   sequence h (r ∷ rows) p a =
       let o = numbered m r p.0 in
@@ -68,7 +68,7 @@ module _ (m : Model) (ok : WithinLimits m) where
         worth_is = omega (arith, k.3, o.2.value_is, rest.worth_is);
       }
 
-  two_step : (p : Row) (earlier : List Row) → Run (shape m) 0 p earlier → p.segment ≡ 0 → All (λ (r : Row). Placed (shape m) r × (r.segment ≡ 0)) (p ∷ earlier) → (t : ℕ) → t ≤ m.width → All (λ (q : Row). top (panels (shape m)) q ≤ t) (p ∷ earlier) → sum (value_of m) (p ∷ earlier) + most plain (general_strips m.length (numbers m)) (m.width - t) ≤ most plain (general_strips m.length (numbers m)) (m.width - p.y)
+  two_step : (p : Row) (earlier : List Row) → Run (shape m) 0 p earlier → p.segment ≡ 0 → AllByRecursion (λ (r : Row). Placed (shape m) r × (r.segment ≡ 0)) (p ∷ earlier) → (t : ℕ) → t ≤ m.width → AllByRecursion (λ (q : Row). top (panels (shape m)) q ≤ t) (p ∷ earlier) → sum (value_of m) (p ∷ earlier) + most plain (general_strips m.length (numbers m)) (m.width - t) ≤ most plain (general_strips m.length (numbers m)) (m.width - p.y)
   two_step p earlier run e each t h tops =
       let q = tallest (shape m) p earlier in
       let o = numbered m q.which (in_all (Placed (shape m)) q.among run.placed) in
@@ -96,14 +96,14 @@ module _ (m : Model) (ok : WithinLimits m) where
   -- ---- three-staged
 
   -- the pieces of a strip are as many as the first one
-  same_sum : (f : Row → ℕ) (a : ℕ) (rows : List Row) → All (λ (r : Row). f r ≡ a) rows → sum f rows ≡ sum (λ (r : Row). 1) rows * a
+  same_sum : (f : Row → ℕ) (a : ℕ) (rows : List Row) → AllByRecursion (λ (r : Row). f r ≡ a) rows → sum f rows ≡ sum (λ (r : Row). 1) rows * a
   same_sum f a [] e = sym (zero-mul a)
   same_sum f a (r ∷ rows) e = omega (arith, same_sum f a rows e.1, e.0, suc-mul (sum (λ (q : Row). 1) rows) a, ap (λ n. n * a) (let z : 1 + sum (λ (q : Row). 1) rows ≡ suc (sum (λ (q : Row). 1) rows) = omega arith in z))
 
   module _ (all : List Row) (set : ThreeStagedSet (shape m) all) (c : ℕ) where
     -- a segment of length l that begins at lo
     module _ (g lo l : ℕ) (right : (r : Row) → Sided (shape m) c all r → r.segment ≡ g → end (panels (shape m)) r ≤ lo + l) where
-      three_step : (p : Row) (earlier : List Row) → Run (shape m) lo p earlier → p.segment ≡ g → All (Sided (shape m) c all) (p ∷ earlier) → (t : ℕ) → t ≤ m.width → All (λ (q : Row). top (panels (shape m)) q ≤ t) (p ∷ earlier) → sum (value_of m) (p ∷ earlier) + most plain (uniform_strips l (numbers m)) (m.width - t) ≤ most plain (uniform_strips l (numbers m)) (m.width - p.y)
+      three_step : (p : Row) (earlier : List Row) → Run (shape m) lo p earlier → p.segment ≡ g → AllByRecursion (Sided (shape m) c all) (p ∷ earlier) → (t : ℕ) → t ≤ m.width → AllByRecursion (λ (q : Row). top (panels (shape m)) q ≤ t) (p ∷ earlier) → sum (value_of m) (p ∷ earlier) + most plain (uniform_strips l (numbers m)) (m.width - t) ≤ most plain (uniform_strips l (numbers m)) (m.width - p.y)
       three_step p earlier run e each t h tops =
           let o = numbered m p run.placed.0 in
           let n = sum (λ (r : Row). 1) (p ∷ earlier) in
@@ -133,8 +133,8 @@ module _ (m : Model) (ok : WithinLimits m) where
 
       -- a whole segment
       segment_most : (left : (r : Row) → Sided (shape m) c all r → r.segment ≡ g → lo ≤ r.x) (aside : ℕ)
-          → ((q r : Row) (rest : List Row) → q.segment ≡ g → NextSegment q r → GoesOn (shape m) r [] rest → All (Sided (shape m) c all) (r ∷ rest) → sum (value_of m) (r ∷ rest) ≤ aside)
-          → (p : Row) (rows : List Row) → GoesOn (shape m) p [] rows → p.segment ≡ g → All (Sided (shape m) c all) (p ∷ rows) → sum (value_of m) (p ∷ rows) ≤ most plain (uniform_strips l (numbers m)) m.width + aside
+          → ((q r : Row) (rest : List Row) → q.segment ≡ g → NextSegment q r → GoesOn (shape m) r [] rest → AllByRecursion (Sided (shape m) c all) (r ∷ rest) → sum (value_of m) (r ∷ rest) ≤ aside)
+          → (p : Row) (rows : List Row) → GoesOn (shape m) p [] rows → p.segment ≡ g → AllByRecursion (Sided (shape m) c all) (p ∷ rows) → sum (value_of m) (p ∷ rows) ≤ most plain (uniform_strips l (numbers m)) m.width + aside
       segment_most left aside next p rows go e each =
           let b = segment_bound (shape m) g lo (Sided (shape m) c all) (λ r z. z.placed) left (value_of m) (λ y. most plain (uniform_strips l (numbers m)) (m.width - y)) aside
           three_step next p [] rows go (run_one each.0.placed (left p each.0 e)) e (each.0, tt) each.1 in
@@ -156,7 +156,7 @@ module _ (m : Model) (ok : WithinLimits m) where
         ),
       )
     where
-      right_side : (c : ℕ) → c ≤ m.length → (b : Row) (rest : List Row) → b.segment ≡ 1 → GoesOn (shape m) b [] rest → All (Sided (shape m) c (r ∷ rows)) (b ∷ rest) → sum (value_of m) (b ∷ rest) ≤ most plain (uniform_strips (m.length - c) (numbers m)) m.width
+      right_side : (c : ℕ) → c ≤ m.length → (b : Row) (rest : List Row) → b.segment ≡ 1 → GoesOn (shape m) b [] rest → AllByRecursion (Sided (shape m) c (r ∷ rows)) (b ∷ rest) → sum (value_of m) (b ∷ rest) ≤ most plain (uniform_strips (m.length - c) (numbers m)) m.width
       right_side c within b rest e go each =
           omega (
             arith,

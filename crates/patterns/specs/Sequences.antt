@@ -1,6 +1,6 @@
 -- Sequences of oriented numbers: which fit a capacity, how two are compared, and the first of greatest worth.
 use Rattle.std.specs.Prelude.{◌≡◌, ℕ, ◌+◌, ◌≤◌, ◌⊎◌, List, [], ◌∷◌, map}
-use Rattle.std.specs.List.{AllByRecursion as All}
+use Rattle.std.specs.List.{AllByRecursion}
 use Rattle.choosing.specs.Choice.{Before}
 use Rattle.patterns.specs.declared.Oriented.{Oriented}
 
@@ -11,7 +11,7 @@ sum f (x ∷ xs) = f x + sum f xs
 
 -- a sequence of numbers that may be used, whose sizes add to at most the capacity
 pub record Fits (Usable : Oriented → Type 0) (size : Oriented → ℕ) (capacity : ℕ) (qs : List Oriented) : Type 0 where
-  pub usable : All Usable qs
+  pub usable : AllByRecursion Usable qs
   pub within : sum size qs ≤ capacity
 
 -- The first sequence of greatest worth: none that fits is worth more, and every other of the same worth comes later. Of two sequences the first

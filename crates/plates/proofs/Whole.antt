@@ -1,6 +1,6 @@
 -- Whole plate texts: read in one way, and with one first bad line.
 use Rattle.std.proofs.Common.{◌≡◌, ℕ, ◌+◌, ◌<◌, List, [], ◌∷◌, ◌++◌, length, sym, refl, ap, ◌∙◌, subst, inl, inr, append_assoc, append-nil, arith, length-append}
-use Rattle.std.specs.List.{AllByRecursion as All}
+use Rattle.std.specs.List.{AllByRecursion}
 use Rattle.text.specs.Texts.{Stops}
 use Rattle.text.proofs.Codes.{Cut, cuts, no_front}
 use Rattle.text.proofs.Many.{peel}
@@ -16,7 +16,7 @@ use Rattle.plates.proofs.LineParts.{plate_code, kind_code, row_code, same_plate,
 use Rattle.plates.proofs.Fronts.{kind_some, row_some, kind_kindly, row_not_kindly}
 
 -- no kind line begins row lines, and no line begins nothing
-no_kind_in_rows : (rs : List RowEntry) → All ShortRow rs → (k : KindEntry) (w : List ℕ) → ShortKind k → row_lines rs ≡ line_of_kind k ++ w → ⊥
+no_kind_in_rows : (rs : List RowEntry) → AllByRecursion ShortRow rs → (k : KindEntry) (w : List ℕ) → ShortKind k → row_lines rs ≡ line_of_kind k ++ w → ⊥
 no_kind_in_rows [] sr k w sk e = omega (arith, kind_some k, simp length-append at (ap length e))
 no_kind_in_rows (r ∷ rs) sr k w sk e = row_not_kindly r (row_lines rs) (row_lines (r ∷ rs)) sr.0 refl (kind_kindly k w (row_lines (r ∷ rs)) e)
 
@@ -27,12 +27,12 @@ no_row_in_none r w s e = omega (arith, row_some r, simp length-append at (ap len
 pub record Follows (rs : List RowEntry) (more : List ℕ) : Type 0 where
   pub kinds : List KindEntry
   pub rows : List RowEntry
-  pub short_kinds : All ShortKind kinds
-  pub short_rows : All ShortRow rows
+  pub short_kinds : AllByRecursion ShortKind kinds
+  pub short_rows : AllByRecursion ShortRow rows
   pub text : more ≡ kind_lines kinds ++ row_lines rows
   pub order : 0 < length rs → kinds ≡ []
 
-after_rows : (rs : List RowEntry) (more : List ℕ) (zs : List KindEntry) (ps : List RowEntry) → All ShortRow rs → All ShortKind zs → All ShortRow ps
+after_rows : (rs : List RowEntry) (more : List ℕ) (zs : List KindEntry) (ps : List RowEntry) → AllByRecursion ShortRow rs → AllByRecursion ShortKind zs → AllByRecursion ShortRow ps
     → row_lines rs ++ more ≡ kind_lines zs ++ row_lines ps → Follows rs more
 after_rows [] more zs ps sr sz sp e = record { kinds = zs; rows = ps; short_kinds = sz; short_rows = sp; text = e; order = λ h. absurd (omega (arith, h)) }
 after_rows (r ∷ rs) more (z ∷ zs) ps sr sz sp e =
@@ -53,7 +53,7 @@ follows s ks rs front more o (q, ls, ps, n) =
     after_rows rs more p.more ps o.short_rows p.short n.short_rows p.rest
 
 -- one text reads as one plate
-none_left : (rs ps : List RowEntry) (zs : List KindEntry) → All ShortRow rs → All ShortKind zs → row_lines rs ≡ kind_lines zs ++ row_lines ps → zs ≡ []
+none_left : (rs ps : List RowEntry) (zs : List KindEntry) → AllByRecursion ShortRow rs → AllByRecursion ShortKind zs → row_lines rs ≡ kind_lines zs ++ row_lines ps → zs ≡ []
 none_left rs ps [] sr sz e = refl
 none_left rs ps (z ∷ zs) sr sz e = absurd (no_kind_in_rows rs sr z (kind_lines zs ++ row_lines ps) sz.0 (e ∙ append_assoc (line_of_kind z) (kind_lines zs) (row_lines ps)))
 
@@ -146,7 +146,7 @@ bad_first t left s = bad_line_at t 0 1 (stopped t [] t 0 refl (inl (refl, refl))
 module _ (rs : List RowEntry) (rest : List ℕ)
     (no_kind : (k : KindEntry) (w : List ℕ) → ShortKind k → (0 < length rs → ⊥) → rest ≡ line_of_kind k ++ w → ⊥)
     (no_row : (r : RowEntry) (w : List ℕ) → ShortRow r → rest ≡ line_of_row r ++ w → ⊥) where
-  by_lines : (more left : List ℕ) → rest ≡ more ++ left → (zs : List KindEntry) (ps : List RowEntry) → All ShortKind zs → All ShortRow ps
+  by_lines : (more left : List ℕ) → rest ≡ more ++ left → (zs : List KindEntry) (ps : List RowEntry) → AllByRecursion ShortKind zs → AllByRecursion ShortRow ps
       → more ≡ kind_lines zs ++ row_lines ps → (0 < length rs → zs ≡ []) → more ≡ []
   by_lines more left e [] [] sz sp text order = text
   by_lines more left e [] (r ∷ ps) sz sp text order =
@@ -182,7 +182,7 @@ bad_kind t u s a ss e b =
     (λ r w sr g. row_not_kindly r w b.rest sr g b.begins))
 
 -- a row line is bad
-bad_row : (t u v : List ℕ) (s : Setting) (ks : List KindEntry) (a : ℕ) → ShortSetting s → All ShortKind ks → t ≡ line_of_plate s ++ u → u ≡ kind_lines ks ++ v → (Kindly v → ⊥)
+bad_row : (t u v : List ℕ) (s : Setting) (ks : List KindEntry) (a : ℕ) → ShortSetting s → AllByRecursion ShortKind ks → t ≡ line_of_plate s ++ u → u ≡ kind_lines ks ++ v → (Kindly v → ⊥)
     → BadRow v (length ks + 1) a → BadLine t a
 bad_row t u v s ks a ss sk e f ended b =
     let front = text_of s ks b.rows in
@@ -203,6 +203,6 @@ pub kinds_unread : (v : Unread) (t u : List ℕ) (s : Setting) → ShortSetting 
 kinds_unread (Line a) t u s (ss, e) b = bad_kind t u s a ss e b
 kinds_unread Memory t u s h b = tt
 
-pub rows_unread : (w : Unread) (n : ℕ) (t u v : List ℕ) (s : Setting) (ks : List KindEntry) → n ≡ length ks + 1 → ShortSetting s × (t ≡ line_of_plate s ++ u) → All ShortKind ks → u ≡ kind_lines ks ++ v → (Kindly v → ⊥) → RowsStopped w v n → PlateUnread w t
+pub rows_unread : (w : Unread) (n : ℕ) (t u v : List ℕ) (s : Setting) (ks : List KindEntry) → n ≡ length ks + 1 → ShortSetting s × (t ≡ line_of_plate s ++ u) → AllByRecursion ShortKind ks → u ≡ kind_lines ks ++ v → (Kindly v → ⊥) → RowsStopped w v n → PlateUnread w t
 rows_unread (Line a) n t u v s ks m (ss, e) sk f ended b = bad_row t u v s ks a ss sk e f ended (subst (λ z. BadRow v z a) m b)
 rows_unread Memory n t u v s ks m h sk f ended b = tt

@@ -1,7 +1,7 @@
 -- What reading a plate text answers.
 use Rattle.std.specs.Prelude.{◌≡◌, ℕ, ◌+◌, ◌^◌, ◌<◌, List, ◌∷◌, ◌++◌, length, vec_items, Vec}
 use Rattle.std.specs.declared.alloc.Global.{Global}
-use Rattle.std.specs.List.{AllByRecursion as All}
+use Rattle.std.specs.List.{AllByRecursion}
 use Rattle.text.specs.Texts.{Stops}
 use Rattle.plates.specs.declared.plate.Setting.{Setting}
 use Rattle.plates.specs.declared.plate.KindEntry.{KindEntry}
@@ -26,7 +26,7 @@ SettingRead t s rest = ShortSetting s × (t ≡ line_of_plate s ++ rest)
 
 -- t is these kind lines and then `rest`, which is no more of them
 pub record KindsRead (t : List ℕ) (ks : Vec KindEntry Global) (rest : List ℕ) : Type 0 where
-  pub short : All ShortKind (vec_items ks)
+  pub short : AllByRecursion ShortKind (vec_items ks)
   pub parts : t ≡ kind_lines (vec_items ks) ++ rest
   pub ended : Kindly rest → ⊥
 
@@ -35,7 +35,7 @@ pub record BadKind (t : List ℕ) (before a : ℕ) : Type 0 where
   pub kinds : List KindEntry
   pub rest : List ℕ
   pub left : List ℕ
-  pub short : All ShortKind kinds
+  pub short : AllByRecursion ShortKind kinds
   pub parts : t ≡ kind_lines kinds ++ rest
   pub begins : Kindly rest
   pub stops : Stops KindLine rest left
@@ -48,7 +48,7 @@ KindsStopped Memory t before = Unit {0}
 
 -- t is these row lines
 pub record RowsRead (t : List ℕ) (rs : Vec RowEntry Global) : Type 0 where
-  pub short : All ShortRow (vec_items rs)
+  pub short : AllByRecursion ShortRow (vec_items rs)
   pub text : t ≡ row_lines (vec_items rs)
 
 -- t is some row lines, and then comes one that is at fault
@@ -56,7 +56,7 @@ pub record BadRow (t : List ℕ) (before a : ℕ) : Type 0 where
   pub rows : List RowEntry
   pub rest : List ℕ
   pub left : List ℕ
-  pub short : All ShortRow rows
+  pub short : AllByRecursion ShortRow rows
   pub parts : t ≡ row_lines rows ++ rest
   pub some : 0 < length rest
   pub stops : Stops RowLine rest left

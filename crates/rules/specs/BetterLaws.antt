@@ -1,7 +1,7 @@
 -- The laws of better-of-two, from those of the two rules.
 use Rattle.std.specs.Prelude.{◌≡◌, ℕ, ◌<◌, ◌≤◌, min, max, Bool, true, false, cond, List, length as size, nat_lt, refl}
 use Rattle.std.proofs.Common.{inl, inr, arith, ltb-true, ltb-false}
-use Rattle.std.specs.List.{AllByRecursion as All}
+use Rattle.std.specs.List.{AllByRecursion}
 use Rattle.std.proofs.lemmas.List.{length-map}
 use Rattle.std.proofs.ByRecursion.{All-weaker}
 use Rattle.layout.specs.declared.row.Row.{Row}
@@ -27,7 +27,7 @@ weaker {stages} {saw} m rows most thin limits le thinner p =
       apart = more_stages thin stages most R ps le (smaller_saw exact_fair saw thin stages R ps thinner (sized_rows m limits rows known) p.apart);
     }
   where
-    known : All (λ (r : Row). r.kind < size m.kinds) rows
+    known : AllByRecursion (λ (r : Row). r.kind < size m.kinds) rows
     known = All-weaker (Placed (shape m)) (λ (r : Row). r.kind < size m.kinds) (λ r q. omega (arith, q.known, length-map m.kinds form)) rows p.placed
 
 -- the chosen list has what both have, and is worth at least as much as each

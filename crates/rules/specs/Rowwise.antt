@@ -1,7 +1,7 @@
 -- What a layer's change of panels and rows does to the piece of a row: its sizes, its place, its worth.
 use Rattle.std.specs.Prelude.{◌≡◌, ℕ, zero, suc, ◌+◌, ◌<◌, ◌≤◌, List, [], ◌∷◌, map, length as size, get_or, slice_index_or, refl}
 use Rattle.std.proofs.Common.{sym, ap, subst, ◌∙◌, arith}
-use Rattle.std.specs.List.{AllByRecursion as All}
+use Rattle.std.specs.List.{AllByRecursion}
 use Rattle.std.proofs.lemmas.List.{get_or-map}
 use Rattle.std.proofs.ByRecursion.{All-get_or}
 use Rattle.layout.specs.declared.panel.Panel.{Panel}
@@ -64,7 +64,7 @@ sized_row m limits r known =
     let e = sym (panel_of_kind m r.kind known) in
     subst (λ (p : Panel). (50 ≤ along p r.turned) × (50 ≤ across p r.turned)) e (sized_panel (get_or m.kinds r.kind no_kind).panel r.turned k.0.0 k.1.0)
 
-pub sized_rows : (m : Model) → WithinLimits m → (rows : List Row) → All (λ (r : Row). r.kind < size m.kinds) rows → Sized (pieces (panels (shape m)) rows)
+pub sized_rows : (m : Model) → WithinLimits m → (rows : List Row) → AllByRecursion (λ (r : Row). r.kind < size m.kinds) rows → Sized (pieces (panels (shape m)) rows)
 sized_rows m limits rows known i lt =
     let z = sized_row m limits (slice_index_or rows i blank) (All-get_or (λ (r : Row). r.kind < size m.kinds) rows i blank lt known) in
     (omega (arith, z.0), omega (arith, z.1))

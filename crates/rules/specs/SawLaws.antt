@@ -1,7 +1,7 @@
 -- The laws of a saw layer, from those of the rule below.
 use Rattle.std.specs.Prelude.{◌≡◌, ℕ, ◌+◌, ◌-◌, ◌<◌, ◌≤◌, true, ◌⊎◌, List, length as size, get_or, slice_index_or, refl}
 use Rattle.std.proofs.Common.{sym, ap, subst, ◌∙◌, arith}
-use Rattle.std.specs.List.{AllByRecursion as All}
+use Rattle.std.specs.List.{AllByRecursion}
 use Rattle.std.proofs.lemmas.List.{length-map}
 use Rattle.std.proofs.ByRecursion.{All-weaker, All-get_or}
 use Rattle.layout.specs.declared.panel.Panel.{Panel}
@@ -44,7 +44,7 @@ placed g s r p =
       unspared = p.unspared;
     }
 
-apart : (g stages saw : ℕ) (m : Model) → WithinLimits m → (rows : List Row) → All (Placed (widened_shape g (shape m))) rows → RowsApart saw stages (widened_shape g (shape m)) rows → RowsApart (saw + g) stages (shape m) rows
+apart : (g stages saw : ℕ) (m : Model) → WithinLimits m → (rows : List Row) → AllByRecursion (Placed (widened_shape g (shape m))) rows → RowsApart saw stages (widened_shape g (shape m)) rows → RowsApart (saw + g) stages (shape m) rows
 apart g stages saw m limits rows each below =
     sawn exact_fair saw stages g m.length m.width (pieces (panels (shape m)) rows) (sized_rows m limits rows (All-weaker (Placed (widened_shape g (shape m))) (λ (r : Row). r.kind < size m.kinds) known rows each))
     (same_places exact_fair saw stages (plate (m.length + g) (m.width + g)) (pieces (panels (widened_shape g (shape m))) rows) (enlarged g (pieces (panels (shape m)) rows)) refl same below)

@@ -1,7 +1,7 @@
 -- The laws of trimming, from those of the rule below.
 use Rattle.std.specs.Prelude.{◌≡◌, ℕ, suc, ◌+◌, ◌-◌, ◌<◌, ◌≤◌, List, [], ◌∷◌, map, length as size, slice_index_or, refl}
 use Rattle.std.proofs.Common.{ap, subst, ◌∙◌, arith}
-use Rattle.std.specs.List.{AllByRecursion as All}
+use Rattle.std.specs.List.{AllByRecursion}
 use Rattle.std.proofs.lemmas.List.{length-map, get_or-map}
 use Rattle.std.proofs.ByRecursion.{All-map, All-weaker}
 use Rattle.layout.specs.declared.row.Row.{Row}
@@ -37,7 +37,7 @@ placed t m limits r p =
       unspared = p.unspared;
     }
 
-apart_more : (t s saw : ℕ) (m : Model) → WithinLimits m → (rows : List Row) → All (Placed (trimmed_shape t (shape m))) rows → RowsApart saw (suc s) (trimmed_shape t (shape m)) rows → RowsApart saw (suc (suc s)) (shape m) (map (moved_row t) rows)
+apart_more : (t s saw : ℕ) (m : Model) → WithinLimits m → (rows : List Row) → AllByRecursion (Placed (trimmed_shape t (shape m))) rows → RowsApart saw (suc s) (trimmed_shape t (shape m)) rows → RowsApart saw (suc (suc s)) (shape m) (map (moved_row t) rows)
 apart_more t s saw m limits rows each below =
     same_places exact_fair saw (suc (suc s)) (plate m.length m.width) (moved t (pieces (panels (shape m)) rows)) (pieces (panels (shape m)) (map (moved_row t) rows)) (length-map rows (moved_row t)) same
     (trimmed exact_fair saw s t m.length m.width (pieces (panels (shape m)) rows) (sized_rows m limits rows (All-weaker (Placed (trimmed_shape t (shape m))) (λ (r : Row). r.kind < size m.kinds) (known_above t m) rows each)) below)
@@ -52,7 +52,7 @@ apart_more t s saw m limits rows each below =
         let inside : i < size rows = omega (arith, length-map rows (moved_row t)) in
         ap (place_of (panels (shape m))) (get_or-map (moved_row t) rows i blank blank inside) ∙ one (slice_index_or rows i blank)
 
-apart : (t stages saw : ℕ) (m : Model) → 1 ≤ stages → WithinLimits m → (rows : List Row) → All (Placed (trimmed_shape t (shape m))) rows → RowsApart saw stages (trimmed_shape t (shape m)) rows → RowsApart saw (stages + 1) (shape m) (map (moved_row t) rows)
+apart : (t stages saw : ℕ) (m : Model) → 1 ≤ stages → WithinLimits m → (rows : List Row) → AllByRecursion (Placed (trimmed_shape t (shape m))) rows → RowsApart saw stages (trimmed_shape t (shape m)) rows → RowsApart saw (stages + 1) (shape m) (map (moved_row t) rows)
 apart t stages saw m some limits rows each below =
     let from : stages ≡ suc (stages - 1) = omega arith in
     let to : suc (suc (stages - 1)) ≡ stages + 1 = omega arith in
@@ -88,7 +88,7 @@ abbrev row_at : Row → ℕ → ℕ → Row
 row_at r x y = record { kind = r.kind; turned = r.turned; segment = r.segment; strip = r.strip; spare = r.spare; x = x; y = y }
 
 -- the rows of a pattern can be moved: their fields hold the sums
-pub pushed_is_moved : (t : ℕ) (m : Model) (rows : List Row) → t ≤ 100 → WithinLimits m → All (Placed (shape m)) rows → map (pushed_row t) rows ≡ map (moved_row t) rows
+pub pushed_is_moved : (t : ℕ) (m : Model) (rows : List Row) → t ≤ 100 → WithinLimits m → AllByRecursion (Placed (shape m)) rows → map (pushed_row t) rows ≡ map (moved_row t) rows
 pushed_is_moved t m [] small limits each = refl
 pushed_is_moved t m (r ∷ rows) small limits (p, each) =
     ap (λ q. q ∷ map (pushed_row t) rows)

@@ -1,7 +1,7 @@
 -- The laws of Turning, from those of the rule below.
 use Rattle.std.specs.Prelude.{◌≡◌, ℕ, ◌<◌, ◌≤◌, true, ◌⊎◌, List, map, length as size, slice_index_or, refl}
 use Rattle.std.proofs.Common.{sym, ap, subst, ◌∙◌, arith}
-use Rattle.std.specs.List.{AllByRecursion as All}
+use Rattle.std.specs.List.{AllByRecursion}
 use Rattle.std.proofs.lemmas.List.{length-map, get_or-map}
 use Rattle.std.proofs.ByRecursion.{All-map, All-weaker, All-get_or}
 use Rattle.layout.specs.declared.panel.Panel.{Panel}
@@ -36,7 +36,7 @@ placed s r p =
       unspared = p.unspared;
     }
 
-apart : (stages saw : ℕ) (s : Shape) (rows : List Row) → All (Placed (exchanged_shape s)) rows → RowsApart saw stages (exchanged_shape s) rows → RowsApart saw stages s (map exchanged_row rows)
+apart : (stages saw : ℕ) (s : Shape) (rows : List Row) → AllByRecursion (Placed (exchanged_shape s)) rows → RowsApart saw stages (exchanged_shape s) rows → RowsApart saw stages s (map exchanged_row rows)
 apart stages saw s rows each below =
     same_places exact_fair saw stages (plate s.length s.width) (all_swapped (pieces (panels (exchanged_shape s)) rows)) (pieces (panels s) (map exchanged_row rows)) (length-map rows exchanged_row) same
     (exchange saw stages (plate s.width s.length) (pieces (panels (exchanged_shape s)) rows) below)

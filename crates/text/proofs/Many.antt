@@ -1,6 +1,6 @@
 -- Lines one after another.
 use Rattle.std.proofs.Common.{◌≡◌, ℕ, ◌<◌, ◌≤◌, List, [], ◌∷◌, ◌++◌, length, sym, refl, ap, ◌∙◌, append_assoc, append-nil, arith, length-append}
-use Rattle.std.specs.List.{AllByRecursion as All}
+use Rattle.std.specs.List.{AllByRecursion}
 use Rattle.text.specs.Fields.{lines}
 
 module _ {X : Type 0} (f : X → List ℕ) where
@@ -26,10 +26,10 @@ module _ {X : Type 0} (f : X → List ℕ) where
       pub more : List X
       pub whole : ys ≡ xs ++ more
       pub rest : u ≡ lines f more ++ v
-      pub short : All Short more
+      pub short : AllByRecursion Short more
 
     -- the lines xs stand at the front of lines ys, after which v begins with no such line
-    pub peel : (xs ys : List X) (u v : List ℕ) → All Short xs → All Short ys → ((x : X) (w : List ℕ) → Short x → v ≡ f x ++ w → ⊥)
+    pub peel : (xs ys : List X) (u v : List ℕ) → AllByRecursion Short xs → AllByRecursion Short ys → ((x : X) (w : List ℕ) → Short x → v ≡ f x ++ w → ⊥)
         → lines f xs ++ u ≡ lines f ys ++ v → Peeled xs ys u v
     peel [] ys u v sx sy none e = record { more = ys; whole = refl; rest = e; short = sy }
     peel (x ∷ xs) [] u v sx sy none e = absurd (none x (lines f xs ++ u) sx.0 (sym e ∙ append_assoc (f x) (lines f xs) u))

@@ -1,5 +1,5 @@
 use Rattle.std.proofs.Common.{◌≡◌, ℕ, ◌-◌, ◌≤◌, List, map, length, take, replicate, sym, ap, ◌∙◌, subst, arith}
-use Rattle.std.specs.List.{AllByRecursion as All}
+use Rattle.std.specs.List.{AllByRecursion}
 use Rattle.std.proofs.lemmas.List.{length-take-le}
 use Rattle.choosing.specs.Choice.{first, most}
 use Rattle.choosing.specs.Plain.{plain}
@@ -53,8 +53,8 @@ module _ (s : Segment) (numbers : List Oriented) (small : s.length ≤ 3200) (st
   stock_is : Stock s.length s.width (take (n - 0) held)
   stock_is = subst (Stock s.length s.width) (sym held_are) fewer
 
-  known_is : All (Known (take (n - 0) held)) (take (count - 0) order)
-  known_is = subst (λ (os : List Oriented). All (Known os) (take (count - 0) order)) (sym held_are) (subst (All (Known (no_longer s.length numbers))) (sym order_is) (strips_known s.length s.width (no_longer s.length numbers) fewer s.filling))
+  known_is : AllByRecursion (Known (take (n - 0) held)) (take (count - 0) order)
+  known_is = subst (λ (os : List Oriented). AllByRecursion (Known os) (take (count - 0) order)) (sym held_are) (subst (AllByRecursion (Known (no_longer s.length numbers))) (sym order_is) (strips_known s.length s.width (no_longer s.length numbers) fewer s.filling))
 
   across_is : sum_across (at no_piece (take (n - 0) held) (take (count - 0) order)) ≤ s.width
   across_is =

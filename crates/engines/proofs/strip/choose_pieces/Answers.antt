@@ -1,5 +1,5 @@
 use Rattle.std.proofs.Common.{◌≡◌, ℕ, ◌-◌, List, length, take, replicate, sym, ap, ◌∙◌, subst, arith}
-use Rattle.std.specs.List.{AllByRecursion as All}
+use Rattle.std.specs.List.{AllByRecursion}
 use Rattle.std.proofs.lemmas.List.{length-take-le}
 use Rattle.choosing.specs.Choice.{first}
 use Rattle.choosing.specs.Plain.{plain}
@@ -46,8 +46,8 @@ gather-requires c =
     let is : take count order ≡ (first plain (strip_pieces numbers h) s.length).order = order_is n count cands (strip_pieces numbers h) s.length order c.offer_pieces-n.ensures.offered chosen.computed in
     record {
       known =
-          subst (λ (os : List Oriented). All (Known os) (take (count - 0) order)) (sym (less_zero n narrow (no_wider h numbers) c.offer_pieces-n.ensures.narrow))
-          (subst (All (Known (no_wider h numbers))) (sym (less_zero count order ks is)) (pieces_known s.length s.width numbers c.requires.stock h));
+          subst (λ (os : List Oriented). AllByRecursion (Known os) (take (count - 0) order)) (sym (less_zero n narrow (no_wider h numbers) c.offer_pieces-n.ensures.narrow))
+          (subst (AllByRecursion (Known (no_wider h numbers))) (sym (less_zero count order ks is)) (pieces_known s.length s.width numbers c.requires.stock h));
       places = omega (arith, length-take-le (count - 0) order (omega (arith, chosen.short, c.choose.auto.order)), chosen.short, c.requires.places);
     }
 

@@ -1,5 +1,5 @@
 use Rattle.std.proofs.Common.{vec_items, sym, subst}
-use Rattle.std.specs.List.{AllByRecursion as All}
+use Rattle.std.specs.List.{AllByRecursion}
 use Rattle.orders.specs.Lines.{ShortItem}
 use Rattle.orders.specs.Printed.{Few}
 use Rattle.orders.proofs.Sums.{few_items}
@@ -12,5 +12,5 @@ push_order-requires c =
     let same = sym c.as_slice.ensures.value in
     record {
       few = subst Few same (few_items c.args.text.now o.head (vec_items o.items) read.says read.fitting);
-      short = subst (All ShortItem) same read.says.short_items;
+      short = subst (AllByRecursion ShortItem) same read.says.short_items;
     }

@@ -1,5 +1,5 @@
 use Rattle.std.proofs.Common.{◌≡◌, ◌<◌, [], ◌∷◌, ◌++◌, length, vec_items, sym, ap, ◌∙◌, subst, append-nil, rules}
-use Rattle.std.specs.List.{AllByRecursion as All}
+use Rattle.std.specs.List.{AllByRecursion}
 use Rattle.std.proofs.lemmas.List.{nil_from_length}
 use Rattle.std.proofs.lemmas.Result.{err_from_is_err_and}
 use Rattle.std.proofs.ByRecursion.{All-push}
@@ -21,7 +21,7 @@ loop-rest-preserved c =
     let is = vec_items c.loop-rest.items in
     let i = c.in_ok-item.item in
     let p : vec_items c.push.new.self ≡ is ++ (i ∷ []) = c.in_ok-push.ensures.items in (
-      subst (All ShortItem) (sym p) (All-push ShortItem is i c.loop-rest.invariant.0 c.in_ok-item.ensures.0),
+      subst (AllByRecursion ShortItem) (sym p) (All-push ShortItem is i c.loop-rest.invariant.0 c.in_ok-item.ensures.0),
       line_more c.in_ok-head.head is i c.args.text.now c.loop-rest.rest.now c.in_ok-item.after.now c.loop-rest.invariant.1 c.in_ok-item.ensures.1
           ∙ ap (λ z. text_of c.in_ok-head.head z ++ c.in_ok-item.after.now) (sym p),
     )

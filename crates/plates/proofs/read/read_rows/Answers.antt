@@ -1,5 +1,5 @@
 use Rattle.std.proofs.Common.{◌≡◌, [], ◌∷◌, ◌++◌, length, vec_items, sym, ap, ◌∙◌, subst, append-nil, arith, rules}
-use Rattle.std.specs.List.{AllByRecursion as All}
+use Rattle.std.specs.List.{AllByRecursion}
 use Rattle.std.proofs.ByRecursion.{All-push}
 use Rattle.std.proofs.lemmas.List.{nil_from_length}
 use Rattle.text.proofs.Many.{lines_push, shorter}
@@ -17,7 +17,7 @@ loop-rest-preserved c =
     let new = c.in-Ok.row in
     let pushed : vec_items c.push.new.self ≡ old ++ (new ∷ []) = c.in_ok-push-in-Ok.ensures.items in
     let less = shorter line_of_row row_some new c.loop-rest.rest.now c.in-Ok.after.now c.in-Ok.ensures.1 in (
-      subst (All ShortRow) (sym pushed) (All-push ShortRow old new c.loop-rest.invariant.0 c.in-Ok.ensures.0),
+      subst (AllByRecursion ShortRow) (sym pushed) (All-push ShortRow old new c.loop-rest.invariant.0 c.in-Ok.ensures.0),
       lines_push line_of_row old new c.args.text.now c.loop-rest.rest.now c.in-Ok.after.now c.loop-rest.invariant.1 c.in-Ok.ensures.1
           ∙ ap (λ z. row_lines z ++ c.in-Ok.after.now) (sym pushed),
       omega (arith, c.loop-rest.invariant.2, less, c.in_ok-push-in-Ok.ensures.len),
