@@ -1,106 +1,41 @@
 -- Accounts as books.
-use Rattle.std.proofs.Common.{◌≡◌, ℕ, zero, suc, ◌+◌, ◌*◌, ◌<◌, ◌≤◌, List, ◌∷◌, ◌++◌, length as size, get_or, take, drop, replicate, sym, refl, ap, ◌∙◌, subst, inl, inr, arith}
-use lib.ListN.{get_or-replicate}
-use Rattle.std.proofs.lemmas.List.{take_at, length-append, length-drop, length-take-le, get_or-take}
-use Rattle.layout.specs.declared.row.Row.{Row}
-use Rattle.layout.specs.declared.refusal.Refusal.{Refusal}
-use Rattle.layout.specs.Refusals.{Accepted, RefusedBy, code_of}
+use Rattle.std.proofs.Common.{◌≡◌, ℕ, ◌+◌, ◌*◌, ◌<◌, ◌≤◌, ◌⊎◌, List, [], ◌∷◌, ◌++◌, length as size, get_or, length-take, ap, ◌∙◌, subst, inl, inr, arith}
+use Rattle.std.proofs.lemmas.List.{get_or_append_left, get_or_push, get_or_default, length_push}
+use Rattle.std.proofs.lemmas.Slice.Zip.{length-zip, get_or-zip}
+use Rattle.std.specs.List.{zip}
+use native.Mathlib.Decide.{dec_lt}
 use Rattle.accounts.specs.declared.account.Account.{Account}
-use Rattle.accounts.specs.Accounts.{Book, LawfulBook, NonePast, Counted, Counts, Summed, Tallied, RowsCause, CountCause, opened, kept}
+use Rattle.accounts.specs.Accounts.{Book, LawfulBook, Summed, sum_at}
 use Rattle.accounts.specs.Books.{book}
 
 -- every account keeps to the limits
 pub lawful_book : (a : Account) → LawfulBook (book a)
-lawful_book a =
-    let few = a.few in
-    let long = length-take-le a.kinds a.ordered (omega (arith, a.full)) in
-    record {
-      few = omega (arith, long);
-      many = omega (arith, long, length-take-le a.kinds a.counted (omega (arith, a.full)));
-      numbers = a.numbers;
-      bounded = λ k lt. omega (arith, get_or-take a.kinds a.counted k 0 (omega (arith, long)), get_or-take a.kinds a.ordered k 0 (omega (arith, long)), a.bounded k (omega (arith, long)));
-    }
+lawful_book a = record { few = omega (arith, length-take a.ordered.used a.ordered.places, a.ordered.few); many = a.many; numbers = a.numbers; bounded = a.bounded }
 
--- a table after numbers were copied to its front: its front is the numbers, and it is as long as before
-pub copied_front : (numbers old table : List ℕ) → table ≡ numbers ++ drop (size numbers) old → take (size numbers) table ≡ numbers
-copied_front numbers old table e = ap (take (size numbers)) e ∙ take_at numbers (drop (size numbers) old) (size numbers) refl
+-- the numbers at one place of three lists
+pub at_place : (counted tallies ordered : List ℕ) (n c t o : ℕ) → n < size (zip (zip counted tallies) ordered) → ((c, t), o) ≡ get_or (zip (zip counted tallies) ordered) n ((c, t), o) → (n < size ordered) × (c ≡ get_or counted n 0) × (t ≡ get_or tallies n 0) × (o ≡ get_or ordered n 0)
+at_place counted tallies ordered n c t o lt e =
+    let few : (n < size counted) × (n < size tallies) × (n < size ordered) = omega (arith, lt, length-zip (zip counted tallies) ordered, length-zip counted tallies) in
+    let outer = e ∙ get_or-zip (zip counted tallies) ordered n ((c, t), o) (omega (arith, few, length-zip counted tallies)) few.2 in
+    let inner = ap (λ (p : (ℕ × ℕ) × ℕ). p.0) outer ∙ get_or-zip counted tallies n (c, t) few.0 few.1 in (
+      few.2,
+      ap (λ (p : ℕ × ℕ). p.0) inner ∙ get_or_default counted n c 0 few.0,
+      ap (λ (p : ℕ × ℕ). p.1) inner ∙ get_or_default tallies n t 0 few.1,
+      ap (λ (p : (ℕ × ℕ) × ℕ). p.1) outer ∙ get_or_default ordered n o 0 few.2,
+    )
 
-pub copied_long : (numbers old table : List ℕ) → size numbers ≤ size old → table ≡ numbers ++ drop (size numbers) old → size table ≡ size old
-copied_long numbers old table le e = ap size e ∙ omega (arith, length-append numbers (drop (size numbers) old), length-drop (size numbers) old)
-
--- a table of zeros
-take_zeros : (n m : ℕ) → n ≤ m → take n (replicate m 0) ≡ replicate {A = ℕ} n 0
-take_zeros zero m le = refl
-take_zeros (suc n) zero le = absurd (omega arith)
-take_zeros (suc n) (suc m) le = ap (λ (l : List ℕ). 0 ∷ l) (take_zeros n m (omega arith))
-
-pub nothing_past : (n : ℕ) (ordered : List ℕ) → n ≤ 32 → NonePast n ordered (replicate 32 0)
-nothing_past n ordered le k lt = omega (arith, get_or-replicate {A = ℕ} 32 k 0 0 (omega arith))
-
-pub opened_book : (ordered table : List ℕ) → size ordered ≤ 32 → take (size ordered) table ≡ ordered → ◌≡◌ {A = Book} (record { ordered = take (size ordered) table; counted = take (size ordered) (replicate 32 0) }) (opened ordered)
-opened_book ordered table few front =
-    ap (λ (l : List ℕ). record { ordered = l; counted = take (size ordered) (replicate 32 0) }) front
-    ∙ ap (λ (l : List ℕ). record { ordered = ordered; counted = l }) (take_zeros (size ordered) 32 few)
-
--- a refusal of the rows is one of the count
-pub rows_refused : (b : Book) (rows : List Row) (runs : ℕ) (e : Refusal) → RefusedBy (RowsCause (size b.ordered) rows runs) e → RefusedBy (CountCause b rows runs) e
-rows_refused b rows runs e h = record { holds = inl h.holds; smallest = λ c lt o. smaller c lt o }
+-- one sum more
+pub summed_push : (b : Book) (table : List ℕ) (runs n : ℕ) (sums : List ℕ) (x c t o : ℕ) → size sums ≡ n → (n < size b.ordered) × (c ≡ get_or b.counted n 0) × (t ≡ get_or table n 0) × (o ≡ get_or b.ordered n 0) → (x ≡ c + runs * t) × (x ≤ o) → Summed b table runs sums → Summed b table runs (sums ++ x ∷ [])
+summed_push b table runs n sums x c t o long here step s = record { each = λ k lt. (at k (place k lt)).0; bounded = λ k lt. (at k (place k lt)).1 }
   where
-    early : RowsCause (size b.ordered) rows runs (code_of e) → code_of e ≤ 5
-    early (inl o) = omega (arith, o.0)
-    early (inr (inl o)) = omega (arith, o.0)
-    early (inr (inr o)) = omega (arith, o.0)
+    place : (k : ℕ) → k < size (sums ++ x ∷ []) → (k < size sums) ⊎ (n ≡ k)
+    place k lt = elim (dec_lt k (size sums)) [ yes l ↦ inl l | no ge ↦ inr (omega (arith, length_push sums x)) ]
 
-    smaller : (c : ℕ) → c < code_of e → CountCause b rows runs c → ⊥
-    smaller c lt (inl o) = h.smallest c lt o
-    smaller c lt (inr o) = omega (arith, o.0, early h.holds)
-
--- the sums of all kinds are the counts
-module _ (b : Book) (rows : List Row) (tallies : List ℕ) (runs : ℕ) (sums : List ℕ) (lawful : LawfulBook b) (t : Tallied rows tallies) (s : Summed b tallies runs (size b.ordered) sums) where
-  -- none of the causes
-  pub none_pass : (k : ℕ) → k < size b.ordered → get_or b.ordered k 0 < get_or b.counted k 0 + runs * kept k rows → ⊥
-  none_pass k lt past =
-      let few = lawful.few in
-      omega (arith, subst (λ (n : ℕ). get_or b.ordered k 0 < get_or b.counted k 0 + runs * n) (sym (t.each k (omega arith))) past, s.each k lt, s.bounded k lt)
-
-  pub accepted : Accepted (RowsCause (size b.ordered) rows runs) → Accepted (CountCause b rows runs)
-  accepted none c (inl o) = none c o
-  accepted none c (inr (e, (k, lt, past))) = none_pass k lt past
-
-  pub counts : Counts b rows runs sums
-  counts =
-      let few = lawful.few in
-      record {
-        full = s.full;
-        each = λ k lt. s.each k lt ∙ ap (λ (n : ℕ). get_or b.counted k 0 + runs * n) (t.each k (omega arith));
-        bounded = s.bounded;
-      }
-
--- the counts written into an account
-pub as_many : (a : Account) → size (book a).ordered ≡ a.kinds
-as_many a = let few = a.few in length-take-le a.kinds a.ordered (omega (arith, a.full))
-
-module _ (a : Account) (rows : List Row) (runs : ℕ) (sums : List ℕ) (c : Counts (book a) rows runs sums) where
-  pub counts_bounded : NonePast a.kinds a.ordered sums
-  counts_bounded k lt = omega (arith, c.bounded k (omega (arith, as_many a)), get_or-take a.kinds a.ordered k 0 lt)
-
-  pub counts_kept : Counted (book a) rows runs (record { ordered = take a.kinds a.ordered; counted = take a.kinds sums })
-  counts_kept =
-      let few = a.few in
-      let many = as_many a in
-      record {
-        ordered = refl;
-        many = omega (arith, (lawful_book a).many, many, length-take-le a.kinds sums (omega (arith, c.full)));
-        each = λ k lt. get_or-take a.kinds sums k 0 (omega (arith, many, lt)) ∙ c.each k lt;
-      }
-
-  pub counts_lawful : LawfulBook (record { ordered = take a.kinds a.ordered; counted = take a.kinds sums })
-  counts_lawful = lawful_book (record {
-    kinds = a.kinds;
-    ordered = a.ordered;
-    counted = sums;
-    few = a.few;
-    full = (a.full.0, c.full);
-    numbers = a.numbers;
-    bounded = counts_bounded;
-  })
+    at : (k : ℕ) → (k < size sums) ⊎ (n ≡ k) → (get_or (sums ++ x ∷ []) k 0 ≡ sum_at b table runs k) × (get_or (sums ++ x ∷ []) k 0 ≤ get_or b.ordered k 0)
+    at k (inl l) =
+        let front : get_or (sums ++ x ∷ []) k 0 ≡ get_or sums k 0 = get_or_append_left sums (x ∷ []) 0 k l in
+        (front ∙ s.each k l, omega (arith, front, s.bounded k l))
+    at k (inr last) =
+        let new : get_or (sums ++ x ∷ []) n 0 ≡ x = get_or_push sums x 0 n long in
+        let sum : x ≡ sum_at b table runs n = step.0 ∙ ap (λ (m : ℕ). m + runs * t) here.1 ∙ ap (λ (m : ℕ). get_or b.counted n 0 + runs * m) here.2 in
+        subst (λ (j : ℕ). (get_or (sums ++ x ∷ []) j 0 ≡ sum_at b table runs j) × (get_or (sums ++ x ∷ []) j 0 ≤ get_or b.ordered j 0)) last (new ∙ sum, omega (arith, new, step.1, here.3))

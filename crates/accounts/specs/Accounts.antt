@@ -45,11 +45,6 @@ pub record LawfulBook (b : Book) : Type 0 where
 abbrev pub AccountCause : List ℕ → ℕ → Type 0
 AccountCause ordered c = ((c ≡ 3) × SomeNumber (Outside 1 10000) ordered) ⊎ ((c ≡ 11) × (32 < size ordered))
 
--- ordered numbers of which none is a cause
-pub record LawfulOrder (ordered : List ℕ) : Type 0 where
-  pub numbers : EachNumber (Between 1 10000) ordered
-  pub few : size ordered ≤ 32
-
 -- the account of these ordered numbers, with nothing counted
 abbrev pub opened : List ℕ → Book
 opened ordered = record { ordered = ordered; counted = replicate (size ordered) 0 }
@@ -110,17 +105,19 @@ sum_at b table runs k = slice_index b.counted k + runs * slice_index table k
 abbrev pub SomePast : Book → List ℕ → ℕ → Type 0
 SomePast b table runs = (k : ℕ) × (k < size b.ordered) × (slice_index b.ordered k < sum_at b table runs k)
 
--- the sums of the first n kinds, none past its ordered number
-pub record Summed (b : Book) (table : List ℕ) (runs n : ℕ) (sums : List ℕ) : Type 0 where
-  pub full : Full sums
-  pub each : (k : ℕ) → k < n → slice_index sums k ≡ sum_at b table runs k
-  pub bounded : NonePast n b.ordered sums
+-- the sums of the first kinds, none past its ordered number
+pub record Summed (b : Book) (table : List ℕ) (runs : ℕ) (sums : List ℕ) : Type 0 where
+  pub each : (k : ℕ) → k < size sums → slice_index sums k ≡ sum_at b table runs k
+  pub bounded : NonePast (size sums) b.ordered sums
 
--- the table has the count of each kind after so many runs of these rows, none past its ordered number
+-- the account with these counts
+abbrev pub with_counts : Book → List ℕ → Book
+with_counts b counts = record { ordered = b.ordered; counted = counts }
+
+-- the counts of each kind after so many runs of these rows, none past its ordered number
 pub record Counts (b : Book) (rows : List Row) (runs : ℕ) (counts : List ℕ) : Type 0 where
-  pub full : Full counts
-  pub each : (k : ℕ) → k < size b.ordered → slice_index counts k ≡ count_after b rows runs k
-  pub bounded : NonePast (size b.ordered) b.ordered counts
+  pub counted : Counted b rows runs (with_counts b counts)
+  pub limits : LawfulBook (with_counts b counts)
 
 -- every kind has its ordered number
 abbrev pub Met : Book → Type 0

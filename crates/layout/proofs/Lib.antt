@@ -1,4 +1,5 @@
-pub mod KindLists
+pub mod Tables
+pub mod Tasks
 pub mod Variants
 pub mod Carrying
 pub mod Laws

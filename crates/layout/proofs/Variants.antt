@@ -1,6 +1,6 @@
 -- Tasks with changed kinds: they keep to the limits and to a reach.
-use Rattle.std.proofs.Common.{◌≡◌, ℕ, suc, ◌+◌, ◌-◌, ◌<◌, ◌≤◌, List, [], ◌∷◌, map, length as size, get_or, take, sym, refl, ap, ◌∙◌, subst, inl, inr, arith}
-use Rattle.std.proofs.lemmas.List.{length-map, get_or-map, take-map}
+use Rattle.std.proofs.Common.{◌≡◌, ℕ, suc, ◌+◌, ◌-◌, ◌<◌, ◌≤◌, List, [], ◌∷◌, map, length as size, get_or, sym, refl, ap, ◌∙◌, subst, inl, inr, arith}
+use Rattle.std.proofs.lemmas.List.{length-map, get_or-map}
 use Rattle.layout.specs.declared.panel.Panel.{Panel}
 use Rattle.layout.specs.declared.panel.Kind.{Kind}
 use Rattle.layout.specs.Limits.{no_kind, EachKind, LawfulSides, LawfulValue}
@@ -24,10 +24,6 @@ each_unmap P f kinds each i lt =
 pub same_map : (f g : Kind → Kind) (kinds : List Kind) → EachKind (λ k. f k ≡ g k) kinds → map f kinds ≡ map g kinds
 same_map f g [] same = refl
 same_map f g (k ∷ kinds) same = ap (λ x. x ∷ map f kinds) (same 0 (omega arith)) ∙ ap (λ xs. g k ∷ xs) (same_map f g kinds (λ i lt. same (suc i) (omega arith)))
-
--- the front of a table that was changed throughout
-pub front_mapped : (f : Kind → Kind) (n : ℕ) (kinds table : List Kind) → table ≡ map f kinds → take n table ≡ map f (take n kinds)
-front_mapped f n kinds table e = ap (take n) e ∙ take-map f n kinds
 
 -- a kind with changed sides has the forms changed alike
 pub forms_varied : (f : Panel → Panel) (kinds : List Kind) → map form (map (with_panel f) kinds) ≡ map (form_with_panel f) (map form kinds)
@@ -97,9 +93,9 @@ abbrev panel_with : ℕ → ℕ → Kind → Kind
 panel_with l w k = record { panel = record { length = l; width = w; may_turn = k.panel.may_turn }; value = k.value; wanted = k.wanted }
 
 -- within the limits no field is too small for the sum
-pub stretched_is_widened : (g : ℕ) (kinds : List Kind) → g ≤ 3200 → EachKind (KindWithin (3200 - g)) kinds → map (with_panel (stretched_panel g)) kinds ≡ map (with_panel (widened_panel g)) kinds
-stretched_is_widened g kinds small within =
+pub stretched_is_widened : (g : ℕ) (kinds : List Kind) → EachKind LawfulSides (map (with_panel (widened_panel g)) kinds) → map (with_panel (stretched_panel g)) kinds ≡ map (with_panel (widened_panel g)) kinds
+stretched_is_widened g kinds lawful =
     same_map (with_panel (stretched_panel g)) (with_panel (widened_panel g)) kinds
-    (λ i lt. let w = within i lt in
+    (λ i lt. let sides = each_unmap LawfulSides (with_panel (widened_panel g)) kinds lawful i lt in
     let k = get_or kinds i no_kind in
-    ap (λ l. panel_with l (stretched_panel g k.panel).width k) (omega (arith, w.0)) ∙ ap (λ n. panel_with (k.panel.length + g) n k) (omega (arith, w.1)))
+    ap (λ l. panel_with l (stretched_panel g k.panel).width k) (omega (arith, sides.0.1)) ∙ ap (λ n. panel_with (k.panel.length + g) n k) (omega (arith, sides.1.1)))

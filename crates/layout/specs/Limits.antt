@@ -1,5 +1,5 @@
 -- The limits of a task. This file does not name Task, whose ghost fields cite it.
-use Rattle.std.specs.Prelude.{◌≡◌, ℕ, ◌<◌, ◌≤◌, false, ◌⊎◌, List, length, slice_index_or}
+use Rattle.std.specs.Prelude.{ℕ, ◌<◌, ◌≤◌, false, ◌⊎◌, List, length, slice_index_or}
 use Rattle.layout.specs.declared.panel.Kind.{Kind}
 
 -- n lies from low to high
@@ -37,7 +37,3 @@ LawfulValue k = Between 1 1000000 k.value
 -- the value is below 1 or above 1,000,000
 abbrev pub BadValue : Kind → Type 0
 BadValue k = Outside 1 1000000 k.value
-
--- the table of a task has 32 places
-abbrev pub Full : List Kind → Type 0
-Full table = length table ≡ 32

@@ -6,4 +6,5 @@ pub mod panel;
 pub mod rect;
 pub mod refusal;
 pub mod row;
+pub mod table;
 pub mod task;

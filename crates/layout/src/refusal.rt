@@ -2,40 +2,40 @@
 ghost use Rattle.std.specs.Prelude.{◌≡◌};
 ghost use Rattle.layout.specs.Refusals.{code_of};
 
-#[derive(Clone, Copy)]
+#[derive(Clone, Copy, Debug, PartialEq, Eq)]
 pub enum Refusal {
     // a side out of its range
-    Side,
+    Side = 1,
     // a value out of its range
-    Value,
+    Value = 2,
     // an ordered number or a number of runs out of its range
-    Quantity,
+    Quantity = 3,
     // no such kind
-    UnknownKind,
+    UnknownKind = 4,
     // too little work memory, too few rows to write to, or too many rows to read
-    Room,
+    Room = 5,
     // a saw width, a trim or a number of stages out of its range
-    Setting,
+    Setting = 6,
     // bad text
-    Text,
+    Text = 7,
     // a job number out of its range
-    JobNumber,
+    JobNumber = 8,
     // too many lines or kinds
-    TooMany,
+    TooMany = 11,
     // a plate is out already
-    PlateOut,
+    PlateOut = 12,
     // the slip is written already
-    SlipWritten,
+    SlipWritten = 13,
     // no plate is out, or the slip is not of this job
-    NothingToSettle,
+    NothingToSettle = 14,
     // nothing is owed
-    NothingOwed,
+    NothingOwed = 15,
     // only the empty pattern is left
-    OnlyEmpty,
+    OnlyEmpty = 16,
     // the reach is too short
-    Reach,
+    Reach = 17,
     // more would be counted than was ordered
-    PastOrder,
+    PastOrder = 18,
 }
 
 impl Refusal {
@@ -43,23 +43,6 @@ impl Refusal {
     pub fn code(self) -> u8
         ensures { result ≡ code_of self }
     {
-        match self {
-            Refusal::Side => 1,
-            Refusal::Value => 2,
-            Refusal::Quantity => 3,
-            Refusal::UnknownKind => 4,
-            Refusal::Room => 5,
-            Refusal::Setting => 6,
-            Refusal::Text => 7,
-            Refusal::JobNumber => 8,
-            Refusal::TooMany => 11,
-            Refusal::PlateOut => 12,
-            Refusal::SlipWritten => 13,
-            Refusal::NothingToSettle => 14,
-            Refusal::NothingOwed => 15,
-            Refusal::OnlyEmpty => 16,
-            Refusal::Reach => 17,
-            Refusal::PastOrder => 18,
-        }
+        self as u8
     }
 }

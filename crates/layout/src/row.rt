@@ -4,7 +4,7 @@ ghost use Rattle.layout.specs.Pieces.{blank};
 
 // One piece. The fields are plain numbers, since a caller may bring any. In what the office writes, kind is at most 31, segment at most 7 and strip
 // at most 63, and turned and spare are 0 or 1. No kind allows a turn above 1, and all above 0 are spare. The corner x, y is the one nearest to 0, 0.
-#[derive(Clone, Copy)]
+#[derive(Clone, Copy, Debug, PartialEq, Eq)]
 pub struct Row {
     pub kind: u8,
     pub turned: u8,

@@ -1,8 +1,10 @@
 // The task: a plate and the kinds that may be laid on it. This file cites only specs that do not name Task.
-ghost use Rattle.std.specs.Prelude.{◌≤◌, take};
-ghost use Rattle.layout.specs.Limits.{Full, EachKind, LawfulSides, LawfulValue};
+ghost use Rattle.std.specs.Prelude.{◌≤◌};
+ghost use Rattle.layout.specs.Limits.{EachKind, LawfulSides, LawfulValue};
+ghost use Rattle.layout.specs.Tables.{listed};
 
 use crate::panel::{Kind, MOST_KINDS};
+use crate::table::Table;
 
 mod making;
 mod varying;
@@ -12,12 +14,8 @@ mod varying;
 pub struct Task {
     length: u16,
     width: u16,
-    // how many of the places have a kind
-    count: u8,
-    kinds: [Kind; MOST_KINDS],
+    kinds: Table<Kind, MOST_KINDS>,
     ghost plate: { (length ≤ 3200) × (width ≤ 3200) },
-    ghost full: { Full kinds },
-    ghost few: { count ≤ 32 },
-    ghost sides: { EachKind LawfulSides (take count kinds) },
-    ghost values: { EachKind LawfulValue (take count kinds) },
+    ghost sides: { EachKind LawfulSides (listed kinds) },
+    ghost values: { EachKind LawfulValue (listed kinds) },
 }

@@ -11,7 +11,7 @@ use layout::task::Task;
 use rules::best::{Best, ROWS};
 use rules::rule::{Rule, admit, blank_from};
 
-#[derive(Clone, Copy)]
+#[derive(Clone, Copy, Debug, PartialEq, Eq)]
 pub struct Nothing {
     reach: u16,
     ghost far: { reach ≤ 3200 },
@@ -22,7 +22,7 @@ fn write_nothing(rows: &mut [Row])
     requires { 4096 ≤ size rows.old }
     ensures { rows.new ≡ written [] rows.old }
 {
-    blank_from(&mut rows[0..ROWS], 0);
+    blank_from(&mut rows[..ROWS], 0);
 }
 
 impl Nothing {

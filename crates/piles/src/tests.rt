@@ -6,7 +6,7 @@ use layout::panel::{Kind, Panel};
 use layout::refusal::Refusal;
 use layout::row::{BLANK, Row};
 use layout::task::Task;
-use rules::best::{ROWS, WORDS};
+use rules::best::{Best, ROWS, WORDS};
 use rules::better::BetterOfTwo;
 use rules::rule::Rule;
 use rules::saw::SawWidth;
@@ -44,15 +44,7 @@ fn saw_is<R: Rule>(_pile: &R, n: u16)
     requires { R.Rule.saw _pile.now ≡ n }
 {}
 
-// The number of the refusal, or 0.
-fn code<T: Drop>(r: Result<T, Refusal>) -> u8 {
-    match r {
-        Ok(_) => 0,
-        Err(refusal) => refusal.code(),
-    }
-}
-
-fn task(length: u16, width: u16, side: u16, wanted: bool) -> Result<Task, Fail> {
+fn task(length: u16, width: u16, side: u16, wanted: bool) -> Result<Task, Refusal> {
     let panel = Panel {
         length: side,
         width: 50,
@@ -63,51 +55,43 @@ fn task(length: u16, width: u16, side: u16, wanted: bool) -> Result<Task, Fail> 
         value: 1,
         wanted,
     };
-    match Task::new(length, width, &[kind]) {
-        Ok(task) => Ok(task),
-        Err(_) => Err(Fail::new("the task was refused")),
-    }
+    Task::new(length, width, &[kind])
 }
 
-fn best<R: Rule>(pile: &R, task: &Task, rows: &mut [Row]) -> u8 {
+fn best<R: Rule>(pile: &R, task: &Task, rows: &mut [Row]) -> Result<Best, Refusal> {
     let mut work = [7; WORDS];
-    code(pile.best(task, &mut work, rows))
+    pile.best(task, &mut work, rows)
 }
 
 #[test]
 fn saws_shorten_the_reach(rt: HostRuntime) -> Result<(), Fail> {
-    let Ok(five) = five_saws(Nothing::new(3_200)) else {
-        return Err(Fail::new("five saws were refused"));
-    };
-    let Ok(ten) = five_saws(five) else {
-        return Err(Fail::new("ten saws were refused"));
-    };
+    let five = five_saws(Nothing::new(3_200))?;
+    let ten = five_saws(five)?;
     assert_eq!(rt; ten.reach(), 3_000);
-    let Ok(eleven) = SawWidth::new(20, ten) else {
-        return Err(Fail::new("eleven saws were refused"));
-    };
+    let eleven = SawWidth::new(20, ten)?;
     assert_eq!(rt; eleven.reach(), 2_980);
-    assert_eq!(rt; code(SawWidth::new(21, Nothing::new(5))), 6);
-    assert_eq!(rt; code(SawWidth::new(20, Nothing::new(19))), 17);
-    let Ok(whole) = SawWidth::new(20, Nothing::new(20)) else {
-        return Err(Fail::new("a saw as wide as the reach was refused"));
-    };
+    assert_eq!(rt;
+        SawWidth::new(21, Nothing::new(5)).err(),
+        Some(Refusal::Setting)
+    );
+    assert_eq!(rt;
+        SawWidth::new(20, Nothing::new(19)).err(),
+        Some(Refusal::Reach)
+    );
+    let whole = SawWidth::new(20, Nothing::new(20))?;
     assert_eq!(rt; whole.reach(), 0);
     Ok(())
 }
 
 #[test]
 fn trimmings_add_their_stages(rt: HostRuntime) -> Result<(), Fail> {
-    assert_eq!(rt; code(Trimming::new(101, Nothing::new(3_200))), 6);
-    let Ok(two) = two_trims(Nothing::new(3_100)) else {
-        return Err(Fail::new("two trimmings were refused"));
-    };
-    let Ok(four) = two_trims(two) else {
-        return Err(Fail::new("four trimmings were refused"));
-    };
-    let Ok(five) = Trimming::new(50, four) else {
-        return Err(Fail::new("five trimmings were refused"));
-    };
+    assert_eq!(rt;
+        Trimming::new(101, Nothing::new(3_200)).err(),
+        Some(Refusal::Setting)
+    );
+    let two = two_trims(Nothing::new(3_100))?;
+    let four = two_trims(two)?;
+    let five = Trimming::new(50, four)?;
     stages_are(&five, 8);
     saw_is(&five, 0);
     let pile = BetterOfTwo::new(Turning::new(five), Nothing::new(3_000));
@@ -118,19 +102,27 @@ fn trimmings_add_their_stages(rt: HostRuntime) -> Result<(), Fail> {
 
 #[test]
 fn a_layer_looks_at_its_own_task(rt: HostRuntime) -> Result<(), Fail> {
-    let Ok(saw) = SawWidth::new(20, Nothing::new(3_200)) else {
-        return Err(Fail::new("the saw layer was refused"));
-    };
-    let Ok(pile) = Trimming::new(10, saw) else {
-        return Err(Fail::new("the trimming was refused"));
-    };
+    let saw = SawWidth::new(20, Nothing::new(3_200))?;
+    let pile = Trimming::new(10, saw)?;
     let mut rows = [MARK; ROWS + 1];
-    assert_eq!(rt; best(&pile, &task(3_190, 50, 50, true)?, &mut rows), 17);
-    assert_eq!(rt; best(&pile, &task(0, 50, 3_181, false)?, &mut rows), 17);
+    assert_eq!(rt;
+        best(&pile, &task(3_190, 50, 50, true)?, &mut rows),
+        Err(Refusal::Reach)
+    );
+    assert_eq!(rt;
+        best(&pile, &task(0, 50, 3_181, false)?, &mut rows),
+        Err(Refusal::Reach)
+    );
     let mut few = [MARK; ROWS - 1];
-    assert_eq!(rt; best(&pile, &task(50, 50, 50, true)?, &mut few), 5);
+    assert_eq!(rt;
+        best(&pile, &task(50, 50, 50, true)?, &mut few),
+        Err(Refusal::Room)
+    );
     assert_eq!(rt; rows[0].kind, 9);
-    assert_eq!(rt; best(&pile, &task(3_180, 0, 3_180, true)?, &mut rows), 0);
+    assert_eq!(rt;
+        best(&pile, &task(3_180, 0, 3_180, true)?, &mut rows),
+        Ok(Best { rows: 0, worth: 0 })
+    );
     assert_eq!(rt;
         (rows[0].kind, rows[4_095].kind, rows[4_096].kind),
         (0, 0, 9)
@@ -143,11 +135,18 @@ fn either_side_may_be_short(rt: HostRuntime) -> Result<(), Fail> {
     let mut rows = [MARK; ROWS];
     let task = task(3_190, 50, 50, true)?;
     let near = BetterOfTwo::new(Nothing::new(3_200), Nothing::new(3_180));
-    assert_eq!(rt; best(&near, &task, &mut rows), 17);
+    assert_eq!(rt; best(&near, &task, &mut rows), Err(Refusal::Reach));
     let near = BetterOfTwo::new(Nothing::new(3_180), Nothing::new(3_200));
-    assert_eq!(rt; best(&near, &task, &mut rows), 17);
+    assert_eq!(rt; best(&near, &task, &mut rows), Err(Refusal::Reach));
     assert_eq!(rt; rows[0].kind, 9);
     let mut work = [7; 7_999];
-    assert_eq!(rt; code(near.best(&task, &mut work, &mut rows)), 5);
+    assert_eq!(rt; near.best(&task, &mut work, &mut rows), Err(Refusal::Room));
     Ok(())
+}
+
+#[test]
+fn refusals_have_their_numbers(rt: HostRuntime) {
+    assert_eq!(rt; Refusal::Room.code(), 5);
+    assert_eq!(rt; Refusal::Setting.code(), 6);
+    assert_eq!(rt; Refusal::Reach.code(), 17);
 }

@@ -1,9 +1,9 @@
 -- The laws of better-of-two, from those of the two rules.
-use Rattle.std.specs.Prelude.{◌≡◌, ℕ, ◌<◌, ◌≤◌, min, max, Bool, true, false, cond, List, length as size, nat_lt, refl}
+use Rattle.std.specs.Prelude.{All, ℕ, ◌<◌, ◌≤◌, min, max, List, length as size, if◌then◌else◌, nat_lt}
 use Rattle.std.proofs.Common.{inl, inr, arith, ltb-true, ltb-false}
-use Rattle.std.specs.List.{AllByRecursion}
+use Rattle.std.proofs.lemmas.Bool.{cond_both}
 use Rattle.std.proofs.lemmas.List.{length-map}
-use Rattle.std.proofs.ByRecursion.{All-weaker}
+use Rattle.std.proofs.lemmas.List.Elements.{All-weaker}
 use Rattle.layout.specs.declared.row.Row.{Row}
 use Rattle.layout.specs.Apart.{plate}
 use Rattle.layout.specs.Places.{pieces}
@@ -27,17 +27,15 @@ weaker {stages} {saw} m rows most thin limits le thinner p =
       apart = more_stages thin stages most R ps le (smaller_saw exact_fair saw thin stages R ps thinner (sized_rows m limits rows known) p.apart);
     }
   where
-    known : AllByRecursion (λ (r : Row). r.kind < size m.kinds) rows
+    known : All (λ (r : Row). r.kind < size m.kinds) rows
     known = All-weaker (Placed (shape m)) (λ (r : Row). r.kind < size m.kinds) (λ r q. omega (arith, q.known, length-map m.kinds form)) rows p.placed
 
--- the chosen list has what both have, and is worth at least as much as each
-chosen_has : (P : List Row → Type 0) (b : Bool) (one two : List Row) → P one → P two → P (cond b two one)
-chosen_has P true one two p q = q
-chosen_has P false one two p q = p
-
-chosen_most : (w : List Row → ℕ) (one two : List Row) (b : Bool) → nat_lt (w one) (w two) ≡ b → (w one ≤ w (cond b two one)) × (w two ≤ w (cond b two one))
-chosen_most w one two true e = let lt : w one < w two = ltb-true (w one) (w two) e in (omega arith, omega arith)
-chosen_most w one two false e = let ge : w two ≤ w one = ltb-false (w one) (w two) e in (omega arith, omega arith)
+-- the chosen list is worth at least as much as each
+chosen_most : (w : List Row → ℕ) (one two : List Row) → let c = if nat_lt (w one) (w two) then two else one in (w one ≤ w c) × (w two ≤ w c)
+chosen_most w one two =
+    cond_both (nat_lt (w one) (w two)) two one (λ c. (w one ≤ w c) × (w two ≤ w c))
+    (λ e. let lt = ltb-true (w one) (w two) e in (omega arith, omega arith))
+    (λ e. let ge = ltb-false (w one) (w two) e in (omega arith, omega arith))
 
 pub better_laws : {one two : Shape → List Row → Type 0} {first second : Model → List Row} {r₁ r₂ s₁ s₂ w₁ w₂ : ℕ} → RuleLaws one first r₁ s₁ w₁ → RuleLaws two second r₂ s₂ w₂ →
     RuleLaws (EitherPatterns one two) (better_named first second) (min r₁ r₂) (max s₁ s₂) (min w₁ w₂)
@@ -50,11 +48,12 @@ better_laws {one} {two} {first} {second} {r₁} {r₂} {s₁} {s₂} {w₁} {w�
         | inl q ↦ weaker m rows (max s₁ s₂) (min w₁ w₂) a.limits (omega arith) (omega arith) (l.proper m (asked_more (omega arith) a) rows q)
         | inr q ↦ weaker m rows (max s₁ s₂) (min w₁ w₂) a.limits (omega arith) (omega arith) (k.proper m (asked_more (omega arith) a) rows q)
       ];
-      member = λ m a. chosen_has (EitherPatterns one two (shape m)) (nat_lt (worth m (first m)) (worth m (second m))) (first m) (second m)
-          (inl (l.member m (asked_more (omega arith) a))) (inr (k.member m (asked_more (omega arith) a)));
+      member = λ m a. cond_both (nat_lt (worth m (first m)) (worth m (second m))) (second m) (first m) (EitherPatterns one two (shape m))
+          (λ e. inr (k.member m (asked_more (omega arith) a)))
+          (λ e. inl (l.member m (asked_more (omega arith) a)));
       most = λ m a rows p.
           let w = worth m in
-          let c = chosen_most w (first m) (second m) (nat_lt (w (first m)) (w (second m))) refl in
+          let c = chosen_most w (first m) (second m) in
           elim p [
             | inl q ↦ omega (arith, c.0, l.most m (asked_more (omega arith) a) rows q)
             | inr q ↦ omega (arith, c.1, k.most m (asked_more (omega arith) a) rows q)

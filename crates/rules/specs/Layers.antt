@@ -1,5 +1,5 @@
 -- What each layer makes of the rule below it: its set is exactly what arises from the set below, and its named pattern arises from the named one below.
-use Rattle.std.specs.Prelude.{◌≡◌, ℕ, ◌+◌, ◌<◌, cond, ◌⊎◌, List, map, nat_lt}
+use Rattle.std.specs.Prelude.{◌≡◌, ℕ, ◌+◌, ◌<◌, ◌⊎◌, List, map, if◌then◌else◌, nat_lt}
 use Rattle.layout.specs.declared.row.Row.{Row}
 use Rattle.layout.specs.Tasks.{Model, Shape, worth}
 use Rattle.layout.specs.Variants.{exchanged_model, exchanged_shape, widened_model, widened_shape, trimmed_model, trimmed_shape}
@@ -48,4 +48,4 @@ abbrev pub EitherPatterns : (Shape → List Row → Type 0) → (Shape → List 
 EitherPatterns first second s rows = first s rows ⊎ second s rows
 
 abbrev pub better_named : (Model → List Row) → (Model → List Row) → Model → List Row
-better_named first second m = cond (nat_lt (worth m (first m)) (worth m (second m))) (second m) (first m)
+better_named first second m = if nat_lt (worth m (first m)) (worth m (second m)) then second m else first m

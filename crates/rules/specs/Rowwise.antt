@@ -1,9 +1,9 @@
 -- What a layer's change of panels and rows does to the piece of a row: its sizes, its place, its worth.
-use Rattle.std.specs.Prelude.{◌≡◌, ℕ, zero, suc, ◌+◌, ◌<◌, ◌≤◌, List, [], ◌∷◌, map, length as size, get_or, slice_index_or, refl}
+use Rattle.std.specs.Prelude.{All, ◌≡◌, ℕ, zero, suc, ◌+◌, ◌<◌, ◌≤◌, List, [], ◌∷◌, map, length as size, get_or, slice_index_or, refl}
 use Rattle.std.proofs.Common.{sym, ap, subst, ◌∙◌, arith}
-use Rattle.std.specs.List.{AllByRecursion}
 use Rattle.std.proofs.lemmas.List.{get_or-map}
-use Rattle.std.proofs.ByRecursion.{All-get_or}
+use Rattle.std.proofs.Math.ListN.{get_or-map as get_or-mapped}
+use Rattle.std.proofs.lemmas.List.Elements.{All-get_or}
 use Rattle.layout.specs.declared.panel.Panel.{Panel}
 use Rattle.layout.specs.declared.panel.Kind.{Kind}
 use Rattle.layout.specs.declared.row.Row.{Row}
@@ -23,17 +23,15 @@ pub form_varied : (f : Panel → Panel) (forms : List Form) (k : ℕ) → k < si
 form_varied f forms k known = get_or-map (form_with_panel f) forms k no_form no_form known
 
 panel_at : (forms : List Form) (k : ℕ) → slice_index_or (map (λ (x : Form). x.panel) forms) k no_panel ≡ (get_or forms k no_form).panel
-panel_at [] k = refl
-panel_at (x ∷ forms) zero = refl
-panel_at (x ∷ forms) (suc k) = panel_at forms k
+panel_at forms k = get_or-mapped (λ (x : Form). x.panel) forms k no_form
 
 pub panel_varied : (f : Panel → Panel) (forms : List Form) (k : ℕ) → k < size forms → slice_index_or (map (λ (x : Form). x.panel) (map (form_with_panel f) forms)) k no_panel ≡ f (slice_index_or (map (λ (x : Form). x.panel) forms) k no_panel)
 panel_varied f forms k known =
     panel_at (map (form_with_panel f) forms) k ∙ ap (λ (x : Form). x.panel) (form_varied f forms k known) ∙ ap f (sym (panel_at forms k))
 
--- the panel of a known kind
-pub panel_of_kind : (m : Model) (k : ℕ) → k < size m.kinds → slice_index_or (panels (shape m)) k no_panel ≡ (get_or m.kinds k no_kind).panel
-panel_of_kind m k known = panel_at (map form m.kinds) k ∙ ap (λ (x : Form). x.panel) (get_or-map form m.kinds k no_kind no_form known)
+-- the panel of a kind
+pub panel_of_kind : (m : Model) (k : ℕ) → slice_index_or (panels (shape m)) k no_panel ≡ (get_or m.kinds k no_kind).panel
+panel_of_kind m k = panel_at (map form m.kinds) k ∙ ap (λ (x : Form). x.panel) (get_or-mapped form m.kinds k no_kind)
 
 -- ---- its sizes
 
@@ -54,17 +52,17 @@ across_widened g p zero = refl
 across_widened g p (suc t) = refl
 
 -- a panel with lawful sides is some millimetres long and wide either way
-sized_panel : (p : Panel) (t : ℕ) → 50 ≤ p.length → 50 ≤ p.width → (50 ≤ along p t) × (50 ≤ across p t)
+pub sized_panel : (p : Panel) (t : ℕ) → 50 ≤ p.length → 50 ≤ p.width → (50 ≤ along p t) × (50 ≤ across p t)
 sized_panel p zero l w = (l, w)
 sized_panel p (suc t) l w = (w, l)
 
 pub sized_row : (m : Model) → WithinLimits m → (r : Row) → r.kind < size m.kinds → (50 ≤ along (panel_of (panels (shape m)) r) r.turned) × (50 ≤ across (panel_of (panels (shape m)) r) r.turned)
 sized_row m limits r known =
     let k = limits.sides r.kind known in
-    let e = sym (panel_of_kind m r.kind known) in
+    let e = sym (panel_of_kind m r.kind) in
     subst (λ (p : Panel). (50 ≤ along p r.turned) × (50 ≤ across p r.turned)) e (sized_panel (get_or m.kinds r.kind no_kind).panel r.turned k.0.0 k.1.0)
 
-pub sized_rows : (m : Model) → WithinLimits m → (rows : List Row) → AllByRecursion (λ (r : Row). r.kind < size m.kinds) rows → Sized (pieces (panels (shape m)) rows)
+pub sized_rows : (m : Model) → WithinLimits m → (rows : List Row) → All (λ (r : Row). r.kind < size m.kinds) rows → Sized (pieces (panels (shape m)) rows)
 sized_rows m limits rows known i lt =
     let z = sized_row m limits (slice_index_or rows i blank) (All-get_or (λ (r : Row). r.kind < size m.kinds) rows i blank lt known) in
     (omega (arith, z.0), omega (arith, z.1))

@@ -1,7 +1,6 @@
 -- What a cutting rule means: a set of patterns and one named pattern for each task, a reach, a number of stages and a saw width; and the laws
 -- that whoever adds a rule shows of them.
-use Rattle.std.specs.Prelude.{◌≡◌, ℕ, ◌<◌, ◌≤◌, true, ◌⊎◌, List, [], length as size}
-use Rattle.std.specs.List.{AllByRecursion}
+use Rattle.std.specs.Prelude.{All, ◌≡◌, ℕ, ◌<◌, ◌≤◌, true, ◌⊎◌, List, [], length as size}
 use Rattle.layout.specs.declared.row.Row.{Row}
 use Rattle.layout.specs.Pieces.{panel_of, end, top}
 use Rattle.layout.specs.Apart.{Exact, ComesApart, plate}
@@ -28,8 +27,8 @@ RowsApart saw stages s rows = ComesApart Exact saw stages (plate s.length s.widt
 -- what holds of each pattern of a rule: at most 4,096 rows, each placed and numbered within the limits, and they come apart
 pub record Proper (stages saw : ℕ) (s : Shape) (rows : List Row) : Type 0 where
   pub few : size rows ≤ 4096
-  pub placed : AllByRecursion (Placed s) rows
-  pub numbered : AllByRecursion Numbered rows
+  pub placed : All (Placed s) rows
+  pub numbered : All Numbered rows
   pub apart : RowsApart saw stages s rows
 
 -- a task that a rule answers for: within the limits of a task and within the rule's reach

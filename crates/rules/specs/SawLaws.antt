@@ -1,9 +1,8 @@
 -- The laws of a saw layer, from those of the rule below.
-use Rattle.std.specs.Prelude.{◌≡◌, ℕ, ◌+◌, ◌-◌, ◌<◌, ◌≤◌, true, ◌⊎◌, List, length as size, get_or, slice_index_or, refl}
+use Rattle.std.specs.Prelude.{All, ◌≡◌, ℕ, ◌+◌, ◌-◌, ◌<◌, ◌≤◌, true, ◌⊎◌, List, length as size, get_or, slice_index_or, refl}
 use Rattle.std.proofs.Common.{sym, ap, subst, ◌∙◌, arith}
-use Rattle.std.specs.List.{AllByRecursion}
 use Rattle.std.proofs.lemmas.List.{length-map}
-use Rattle.std.proofs.ByRecursion.{All-weaker, All-get_or}
+use Rattle.std.proofs.lemmas.List.Elements.{All-weaker, All-get_or}
 use Rattle.layout.specs.declared.panel.Panel.{Panel}
 use Rattle.layout.specs.declared.row.Row.{Row}
 use Rattle.layout.specs.Pieces.{blank, along, across, panel_of}
@@ -15,7 +14,7 @@ use Rattle.layout.specs.Variants.{widened_panel, form_with_panel, widened_model,
 use Rattle.layout.proofs.Carrying.{exact_fair}
 use Rattle.layout.proofs.Laws.{sawn, same_places}
 use Rattle.layout.proofs.Variants.{shape_widened, widened_within_limits, widened_within_reach}
-use Rattle.rules.specs.Rules.{Placed, RowsApart, Proper, RuleLaws}
+use Rattle.rules.specs.Rules.{Placed, RowsApart, Proper, Asked, RuleLaws}
 use Rattle.rules.specs.Layers.{SawPatterns, saw_named}
 use Rattle.rules.specs.Rowwise.{form_varied, panel_varied, along_widened, across_widened, spans, sized_rows, value_varied, worth_alike}
 use Rattle.rules.specs.Answering.{within_more}
@@ -44,7 +43,7 @@ placed g s r p =
       unspared = p.unspared;
     }
 
-apart : (g stages saw : ℕ) (m : Model) → WithinLimits m → (rows : List Row) → AllByRecursion (Placed (widened_shape g (shape m))) rows → RowsApart saw stages (widened_shape g (shape m)) rows → RowsApart (saw + g) stages (shape m) rows
+apart : (g stages saw : ℕ) (m : Model) → WithinLimits m → (rows : List Row) → All (Placed (widened_shape g (shape m))) rows → RowsApart saw stages (widened_shape g (shape m)) rows → RowsApart (saw + g) stages (shape m) rows
 apart g stages saw m limits rows each below =
     sawn exact_fair saw stages g m.length m.width (pieces (panels (shape m)) rows) (sized_rows m limits rows (All-weaker (Placed (widened_shape g (shape m))) (λ (r : Row). r.kind < size m.kinds) known rows each))
     (same_places exact_fair saw stages (plate (m.length + g) (m.width + g)) (pieces (panels (widened_shape g (shape m))) rows) (enlarged g (pieces (panels (shape m)) rows)) refl same below)
@@ -71,12 +70,16 @@ proper g stages saw m limits rows p = record {
 pub worth_widened : (g : ℕ) (m : Model) (rows : List Row) → worth m rows ≡ worth (widened_model g m) rows
 worth_widened g m = worth_alike m (widened_model g m) (λ r. sym (value_varied (widened_panel g) m.kinds r.kind))
 
+-- the task below is one that the rule there answers for
+pub asked_widened : {reach : ℕ} (g : ℕ) (m : Model) → g ≤ reach → reach ≤ 3200 → Asked (reach - g) m → Asked reach (widened_model g m)
+asked_widened g m small far a = record {
+  limits = widened_within_limits g m (omega arith) a.limits (within_more (omega arith) a.within);
+  within = widened_within_reach g m small a.within;
+}
+
 saw_layer : (g reach stages saw : ℕ) → g ≤ reach → reach ≤ 3200 → 1 ≤ stages → Layer (widened_model g) (widened_shape g) (λ rows. rows) reach stages saw (reach - g) stages (saw + g)
 saw_layer g reach stages saw small far staged = record {
-  asks = λ m a. record {
-    limits = widened_within_limits g m (omega arith) a.limits (within_more (omega arith) a.within);
-    within = widened_within_reach g m small a.within;
-  };
+  asks = λ m a. asked_widened g m small far a;
   shapes = shape_widened g;
   nothing = refl;
   worth_is = worth_widened g;

@@ -1,9 +1,8 @@
 -- The laws of Turning, from those of the rule below.
-use Rattle.std.specs.Prelude.{◌≡◌, ℕ, ◌<◌, ◌≤◌, true, ◌⊎◌, List, map, length as size, slice_index_or, refl}
+use Rattle.std.specs.Prelude.{All, ◌≡◌, ℕ, ◌<◌, ◌≤◌, true, ◌⊎◌, List, map, length as size, slice_index_or, refl}
 use Rattle.std.proofs.Common.{sym, ap, subst, ◌∙◌, arith}
-use Rattle.std.specs.List.{AllByRecursion}
 use Rattle.std.proofs.lemmas.List.{length-map, get_or-map}
-use Rattle.std.proofs.ByRecursion.{All-map, All-weaker, All-get_or}
+use Rattle.std.proofs.lemmas.List.Elements.{All-map, All-weaker, All-get_or}
 use Rattle.layout.specs.declared.panel.Panel.{Panel}
 use Rattle.layout.specs.declared.row.Row.{Row}
 use Rattle.layout.specs.declared.rect.Rect.{Rect}
@@ -15,7 +14,7 @@ use Rattle.layout.specs.Variants.{exchanged_panel, form_with_panel, exchanged_mo
 use Rattle.layout.proofs.Carrying.{exact_fair}
 use Rattle.layout.proofs.Laws.{exchange, same_places}
 use Rattle.layout.proofs.Variants.{shape_exchanged, exchanged_within_limits, exchanged_within_reach}
-use Rattle.rules.specs.Rules.{Placed, Numbered, RowsApart, Proper, RuleLaws}
+use Rattle.rules.specs.Rules.{Placed, Numbered, RowsApart, Proper, Asked, RuleLaws}
 use Rattle.rules.specs.Layers.{exchanged_row, TurningPatterns, turning_named}
 use Rattle.rules.specs.Rowwise.{form_varied, panel_varied, place_exchanged, value_varied, worth_alike, worth_mapped}
 use Rattle.rules.specs.Layered.{Layer, layer_laws}
@@ -36,7 +35,7 @@ placed s r p =
       unspared = p.unspared;
     }
 
-apart : (stages saw : ℕ) (s : Shape) (rows : List Row) → AllByRecursion (Placed (exchanged_shape s)) rows → RowsApart saw stages (exchanged_shape s) rows → RowsApart saw stages s (map exchanged_row rows)
+apart : (stages saw : ℕ) (s : Shape) (rows : List Row) → All (Placed (exchanged_shape s)) rows → RowsApart saw stages (exchanged_shape s) rows → RowsApart saw stages s (map exchanged_row rows)
 apart stages saw s rows each below =
     same_places exact_fair saw stages (plate s.length s.width) (all_swapped (pieces (panels (exchanged_shape s)) rows)) (pieces (panels s) (map exchanged_row rows)) (length-map rows exchanged_row) same
     (exchange saw stages (plate s.width s.length) (pieces (panels (exchanged_shape s)) rows) below)
@@ -60,9 +59,13 @@ pub worth_exchanged : (m : Model) (rows : List Row) → worth m (map exchanged_r
 worth_exchanged m rows =
     worth_mapped m exchanged_row (λ r. refl) rows ∙ worth_alike m (exchanged_model m) (λ r. sym (value_varied exchanged_panel m.kinds r.kind)) rows
 
+-- the task below is one that the rule there answers for
+pub asked_exchanged : {reach : ℕ} (m : Model) → Asked reach m → Asked reach (exchanged_model m)
+asked_exchanged m a = record { limits = exchanged_within_limits m a.limits; within = exchanged_within_reach m a.within }
+
 turning_layer : (reach stages saw : ℕ) → reach ≤ 3200 → 1 ≤ stages → Layer exchanged_model exchanged_shape (map exchanged_row) reach stages saw reach stages saw
 turning_layer reach stages saw far staged = record {
-  asks = λ m a. record { limits = exchanged_within_limits m a.limits; within = exchanged_within_reach m a.within };
+  asks = asked_exchanged;
   shapes = shape_exchanged;
   nothing = refl;
   worth_is = worth_exchanged;

@@ -6,7 +6,7 @@ pub const WORDS: usize = 8_000;
 pub const ROWS: usize = 4_096;
 
 // The number of rows of the pattern written, and their worth.
-#[derive(Clone, Copy)]
+#[derive(Clone, Copy, Debug, PartialEq, Eq)]
 pub struct Best {
     pub rows: u16,
     pub worth: u64,

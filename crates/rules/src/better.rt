@@ -1,12 +1,10 @@
 // Better-of-two: asks both rules, and keeps the first's pattern unless the second's is worth more.
-ghost use Rattle.std.specs.Prelude.{◌≡◌, ◌<◌, ◌≤◌, min, max, ◌++◌, length as size, take, drop, MatchBool};
-ghost use Rattle.layout.specs.Models.{model};
-ghost use Rattle.rules.specs.Answers.{Admitted, Wrote};
+ghost use Rattle.std.specs.Prelude.{◌≡◌, ◌≤◌, min, max, ◌++◌, length as size, take, drop, if◌then◌else◌, nat_lt};
 ghost use Rattle.rules.specs.Layers.{EitherPatterns, better_named};
 ghost use Rattle.rules.specs.BetterLaws.{better_laws};
 
 use crate::best::{Best, ROWS};
-use crate::rule::{Rule, admit};
+use crate::rule::{Rule, admit, ask_admitted};
 use layout::refusal::Refusal;
 use layout::row::{BLANK, Row};
 use layout::task::Task;
@@ -17,19 +15,17 @@ pub struct BetterOfTwo<F, S> {
     second: S,
 }
 
-// Copies the first 4,096 rows.
-fn copy_rows(from: &[Row], to: &mut [Row])
-    requires { (4096 ≤ size from.now) × (4096 ≤ size to.old) }
-    ensures { to.new ≡ take 4096 from.now ++ drop 4096 to.old }
+// Leaves the first's pattern, which stands in the rows, unless the second's is worth more: that one is copied over it.
+fn keep_better(first: Best, rows: &mut [Row], second: Best, other: &[Row]) -> Best
+    requires { (4096 ≤ size rows.old) × (4096 ≤ size other.now) }
+    ensures answer { result ≡ (if nat_lt first.worth second.worth then second else first) }
+    ensures rows { rows.new ≡ (if nat_lt first.worth second.worth then take 4096 other.now ++ drop 4096 rows.old else rows.old) }
 {
-    to[0..ROWS].copy_from_slice(&from[0..ROWS]);
-}
-
-// Whether the first's pattern is kept: the second's is not worth more.
-fn first_is_kept(first: Best, second: Best) -> bool
-    ensures { MatchBool result (second.worth ≤ first.worth) (first.worth < second.worth) }
-{
-    second.worth <= first.worth
+    if second.worth <= first.worth {
+        return first;
+    }
+    rows[..ROWS].copy_from_slice(&other[..ROWS]);
+    second
 }
 
 impl<F: Rule, S: Rule> BetterOfTwo<F, S> {
@@ -37,25 +33,6 @@ impl<F: Rule, S: Rule> BetterOfTwo<F, S> {
         ensures { (result.first ≡ first) × (result.second ≡ second) }
     {
         BetterOfTwo { first, second }
-    }
-
-    // The named pattern, for a task that was admitted. Each rule is asked once; the second writes to rows of its own.
-    fn ask(&self, task: &Task, work: &mut [u64], rows: &mut [Row]) -> Best
-        requires { Admitted (min (F.Rule.reach self.now.first) (S.Rule.reach self.now.second)) (model task.now) (size work.old) (size rows.old) }
-        ensures { Wrote (model task.now) (better_named (F.Rule.named self.now.first) (S.Rule.named self.now.second) (model task.now)) rows.old rows.new result }
-    {
-        let mut other = [BLANK; ROWS];
-        let Ok(second) = self.second.best(task, work, &mut other) else {
-            unreachable()
-        };
-        let Ok(first) = self.first.best(task, work, rows) else {
-            unreachable()
-        };
-        if first_is_kept(first, second) {
-            return first;
-        }
-        copy_rows(&other, rows);
-        second
     }
 }
 
@@ -76,8 +53,12 @@ impl<F: Rule, S: Rule> Rule for BetterOfTwo<F, S> {
         self.first.reach().min(self.second.reach())
     }
 
+    // Each rule is asked once; the second writes to rows of its own, since those lent cannot hold two patterns.
     fn best(&self, task: &Task, work: &mut [u64], rows: &mut [Row]) -> Result<Best, Refusal> {
         admit(self.reach(), task, work.len(), rows.len())?;
-        Ok(self.ask(task, work, rows))
+        let mut other = [BLANK; ROWS];
+        let second = ask_admitted(&self.second, task, work, &mut other);
+        let first = ask_admitted(&self.first, task, work, rows);
+        Ok(keep_better(first, rows, second, &other))
     }
 }

@@ -5,7 +5,7 @@ ghost use Rattle.layout.specs.Models.{model};
 ghost use Rattle.layout.specs.Pieces.{blank};
 ghost use Rattle.layout.specs.Refusals.{Answered};
 ghost use Rattle.layout.specs.Tasks.{Model, Shape};
-ghost use Rattle.rules.specs.Answers.{BestCause, Admitted, Leaves};
+ghost use Rattle.rules.specs.Answers.{BestCause, Admitted, Wrote, Leaves};
 ghost use Rattle.rules.specs.Rules.{RuleLaws};
 
 use crate::best::{Best, ROWS, WORDS};
@@ -56,33 +56,32 @@ pub fn admit(reach: u16, task: &Task, words: usize, rows: usize) -> Result<(), R
     Ok(())
 }
 
-// Blanks the rows from `start` on, one by one.
-fn blank_each(rows: &mut [Row], start: usize)
-    ensures { rows.new ≡ take start rows.old ++ replicate (size rows.old - start) blank }
+// Asks a rule for a task that it admits, so that it cannot refuse. Task, work memory and rows are not made one value: each layer asks below with
+// another task, by the call of the trait, which takes the three apart.
+pub(crate) fn ask_admitted<R: Rule>(
+    rule: &R,
+    task: &Task,
+    work: &mut [u64],
+    rows: &mut [Row],
+) -> Best
+    requires { Admitted (R.Rule.reach rule.now) (model task.now) (size work.old) (size rows.old) }
+    ensures { Wrote (model task.now) (R.Rule.named rule.now (model task.now)) rows.old rows.new result }
 {
-    for i in start..rows.len() {
-        rows[i] = BLANK;
-    }
+    rule.best(task, work, rows).unwrap()
 }
 
 // Blanks the rows from `start` on. A rule that has written its pattern to the front of the first 4,096 rows ends with this.
 pub fn blank_from(rows: &mut [Row], start: usize)
     ensures { rows.new ≡ take start rows.old ++ replicate (size rows.old - start) blank }
 {
-    blank_each(rows, start);
-}
-
-// Changes so many of the first rows.
-fn change_front<C: Change<Row>>(rows: &mut [Row], count: usize, by: &C)
-    requires { count ≤ size rows.old }
-    ensures { rows.new ≡ map (C.Change.changed by.now) (take count rows.old) ++ drop count rows.old }
-{
-    change_all(&mut rows[0..count], by);
+    let start = start.min(rows.len());
+    rows[start..].fill(BLANK);
 }
 
 // Changes the first rows, those of a pattern, and leaves the others. A count beyond the rows means all of them.
 pub fn change_first<C: Change<Row>>(rows: &mut [Row], count: usize, by: &C)
     ensures { rows.new ≡ map (C.Change.changed by.now) (take count rows.old) ++ drop count rows.old }
 {
-    change_front(rows, count.min(rows.len()), by);
+    let count = count.min(rows.len());
+    change_all(&mut rows[..count], by);
 }

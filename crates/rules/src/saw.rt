@@ -1,14 +1,12 @@
 // Saw width g: asks below with g added to all sides of plate and kinds, so that each piece brings its saw cut with it.
-ghost use Rattle.std.specs.Prelude.{◌≡◌, ◌+◌, ◌-◌, ◌≤◌, min, length as size, IfOk};
-ghost use Rattle.layout.specs.Models.{model};
+ghost use Rattle.std.specs.Prelude.{◌≡◌, ◌+◌, ◌-◌, ◌≤◌, min, IfOk};
 ghost use Rattle.layout.specs.Refusals.{Answered};
-ghost use Rattle.rules.specs.Answers.{Admitted, Wrote};
 ghost use Rattle.rules.specs.Layers.{SawPatterns, saw_named, SawCause};
 ghost use Rattle.std.proofs.Common.{arith};
 ghost use Rattle.rules.specs.SawLaws.{saw_laws};
 
 use crate::best::Best;
-use crate::rule::{Rule, admit};
+use crate::rule::{Rule, admit, ask_admitted};
 use layout::refusal::Refusal;
 use layout::row::Row;
 use layout::task::Task;
@@ -48,20 +46,6 @@ impl<R: Rule> SawWidth<R> {
     {
         self.width.min(self.below.reach())
     }
-
-    // The named pattern, for a task that was admitted.
-    fn ask(&self, task: &Task, work: &mut [u64], rows: &mut [Row]) -> Best
-        requires { Admitted (R.Rule.reach self.now.below - min self.now.width (R.Rule.reach self.now.below)) (model task.now) (size work.old) (size rows.old) }
-        ensures { Wrote (model task.now) (saw_named (min self.now.width (R.Rule.reach self.now.below)) (R.Rule.named self.now.below) (model task.now)) rows.old rows.new result }
-    {
-        let Some(wider) = task.widened(self.added()) else {
-            unreachable()
-        };
-        let Ok(best) = self.below.best(&wider, work, rows) else {
-            unreachable()
-        };
-        best
-    }
 }
 
 impl<R: Rule> Rule for SawWidth<R> {
@@ -83,6 +67,7 @@ impl<R: Rule> Rule for SawWidth<R> {
 
     fn best(&self, task: &Task, work: &mut [u64], rows: &mut [Row]) -> Result<Best, Refusal> {
         admit(self.reach(), task, work.len(), rows.len())?;
-        Ok(self.ask(task, work, rows))
+        let wider = task.widened(self.added()).unwrap();
+        Ok(ask_admitted(&self.below, &wider, work, rows))
     }
 }

@@ -1,14 +1,12 @@
 // Trimming by t: asks below with a border of breadth t taken off the plate, and moves each row by t in x and y.
-ghost use Rattle.std.specs.Prelude.{◌≡◌, ◌+◌, ◌≤◌, length as size, IfOk};
-ghost use Rattle.layout.specs.Models.{model};
+ghost use Rattle.std.specs.Prelude.{◌≡◌, ◌+◌, ◌≤◌, IfOk};
 ghost use Rattle.layout.specs.Refusals.{Answered};
-ghost use Rattle.rules.specs.Answers.{Admitted, Wrote};
 ghost use Rattle.rules.specs.Layers.{TrimmingPatterns, trimming_named, TrimCause};
 ghost use Rattle.rules.specs.Sums.{pushed_row};
 ghost use Rattle.rules.specs.TrimmingLaws.{trimming_laws};
 
 use crate::best::Best;
-use crate::rule::{Rule, admit, change_first};
+use crate::rule::{Rule, admit, ask_admitted, change_first};
 use layout::change::Change;
 use layout::refusal::Refusal;
 use layout::row::Row;
@@ -53,20 +51,6 @@ impl<R: Rule + Drop> Trimming<R> {
     }
 }
 
-impl<R: Rule> Trimming<R> {
-    // The named pattern, for a task that was admitted.
-    fn ask(&self, task: &Task, work: &mut [u64], rows: &mut [Row]) -> Best
-        requires { Admitted (R.Rule.reach self.now.below) (model task.now) (size work.old) (size rows.old) }
-        ensures { Wrote (model task.now) (trimming_named self.now.trim (R.Rule.named self.now.below) (model task.now)) rows.old rows.new result }
-    {
-        let Ok(best) = self.below.best(&task.trimmed(self.trim), work, rows) else {
-            unreachable()
-        };
-        change_first::<Shift>(rows, best.rows as usize, &Shift(self.trim));
-        best
-    }
-}
-
 impl<R: Rule> Rule for Trimming<R> {
     ghost patterns = { λ s. TrimmingPatterns s.trim (R.Rule.patterns s.below) };
 
@@ -86,6 +70,8 @@ impl<R: Rule> Rule for Trimming<R> {
 
     fn best(&self, task: &Task, work: &mut [u64], rows: &mut [Row]) -> Result<Best, Refusal> {
         admit(self.reach(), task, work.len(), rows.len())?;
-        Ok(self.ask(task, work, rows))
+        let best = ask_admitted(&self.below, &task.trimmed(self.trim), work, rows);
+        change_first(rows, usize::from(best.rows), &Shift(self.trim));
+        Ok(best)
     }
 }

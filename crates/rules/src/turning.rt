@@ -1,12 +1,10 @@
 // Turning: asks below with all sides exchanged, and exchanges x and y of each row.
-ghost use Rattle.std.specs.Prelude.{◌≡◌, length as size};
-ghost use Rattle.layout.specs.Models.{model};
-ghost use Rattle.rules.specs.Answers.{Admitted, Wrote};
+ghost use Rattle.std.specs.Prelude.{◌≡◌};
 ghost use Rattle.rules.specs.Layers.{exchanged_row, TurningPatterns, turning_named};
 ghost use Rattle.rules.specs.TurningLaws.{turning_laws};
 
 use crate::best::Best;
-use crate::rule::{Rule, admit, change_first};
+use crate::rule::{Rule, admit, ask_admitted, change_first};
 use layout::change::Change;
 use layout::refusal::Refusal;
 use layout::row::Row;
@@ -28,6 +26,8 @@ impl Change<Row> for Exchange {
     }
 }
 
+// Turning, trimming and the saw layer are three rules, and not one over a trait of changes: task, rows, reach, stages and saw width each change in
+// another way, so that trait would have as many members as `Rule`. What they share is `change_first`, `ask_admitted` and the lemma `layer_laws`.
 #[derive(Drop)]
 pub struct Turning<R> {
     below: R,
@@ -38,18 +38,6 @@ impl<R: Rule> Turning<R> {
         ensures { result.below ≡ below }
     {
         Turning { below }
-    }
-
-    // The named pattern, for a task that was admitted.
-    fn ask(&self, task: &Task, work: &mut [u64], rows: &mut [Row]) -> Best
-        requires { Admitted (R.Rule.reach self.now.below) (model task.now) (size work.old) (size rows.old) }
-        ensures { Wrote (model task.now) (turning_named (R.Rule.named self.now.below) (model task.now)) rows.old rows.new result }
-    {
-        let Ok(best) = self.below.best(&task.exchanged(), work, rows) else {
-            unreachable()
-        };
-        change_first::<Exchange>(rows, best.rows as usize, &Exchange);
-        best
     }
 }
 
@@ -72,6 +60,8 @@ impl<R: Rule> Rule for Turning<R> {
 
     fn best(&self, task: &Task, work: &mut [u64], rows: &mut [Row]) -> Result<Best, Refusal> {
         admit(self.reach(), task, work.len(), rows.len())?;
-        Ok(self.ask(task, work, rows))
+        let best = ask_admitted(&self.below, &task.exchanged(), work, rows);
+        change_first(rows, usize::from(best.rows), &Exchange);
+        Ok(best)
     }
 }

@@ -1,13 +1,13 @@
 // A task compared with a reach, and the tasks that layers ask below with.
-ghost use Rattle.std.specs.Prelude.{◌≡◌, ◌-◌, ◌≤◌, map, MatchBool, MatchOption};
-ghost use Rattle.layout.specs.Limits.{EachKind, SomeKind, LawfulSides, LawfulValue};
+ghost use Rattle.std.specs.Prelude.{◌≡◌, map, MatchBool, MatchOption};
+ghost use Rattle.layout.specs.Limits.{EachKind, SomeKind};
 ghost use Rattle.layout.specs.Tasks.{WithinLimits, WithinReach, BeyondReach, KindWithin, KindBeyond, given};
 ghost use Rattle.layout.specs.Variants.{exchanged_panel, widened_panel, with_panel, exchanged_model, widened_model, trimmed_model};
 ghost use Rattle.layout.specs.Sums.{stretched_panel};
 ghost use Rattle.layout.specs.Models.{model};
 
-use crate::change::{Change, change_all};
-use crate::panel::{GREATEST_SIDE, Kind, Panel};
+use crate::change::Change;
+use crate::panel::{GREATEST_SIDE, Kind};
 use crate::task::Task;
 
 // The sides of a kind exchanged.
@@ -18,11 +18,7 @@ impl Change<Kind> for Exchange {
     ghost changed = { λ _. with_panel exchanged_panel };
 
     fn apply(&self, x: Kind) -> Kind {
-        let panel = Panel {
-            length: x.panel.width,
-            width: x.panel.length,
-            ..x.panel
-        };
+        let panel = x.panel.exchanged();
         Kind { panel, ..x }
     }
 }
@@ -35,25 +31,9 @@ impl Change<Kind> for Widen {
     ghost changed = { λ w. with_panel (stretched_panel w.0) };
 
     fn apply(&self, x: Kind) -> Kind {
-        let panel = Panel {
-            length: x.panel.length.saturating_add(self.0),
-            width: x.panel.width.saturating_add(self.0),
-            ..x.panel
-        };
+        let panel = x.panel.stretched(self.0);
         Kind { panel, ..x }
     }
-}
-
-// Whether no side of a kind, wanted or not, exceeds the reach.
-fn kinds_are_within(kinds: &[Kind], reach: u16) -> bool
-    ensures { MatchBool result (EachKind (KindWithin reach) kinds.now) (SomeKind (KindBeyond reach) kinds.now) }
-{
-    for k in kinds {
-        if k.panel.length > reach || k.panel.width > reach {
-            return false;
-        }
-    }
-    true
 }
 
 impl Task {
@@ -61,40 +41,36 @@ impl Task {
     pub fn within(&self, reach: u16) -> bool
         ensures { MatchBool result (WithinReach reach (model self.now)) (BeyondReach reach (model self.now)) }
     {
-        self.length <= reach && self.width <= reach && kinds_are_within(self.kinds(), reach)
+        self.length <= reach
+            && self.width <= reach
+            && self.kinds().iter().all(|k| k.is_within(reach))
     }
 
-    // The task of a plate with all kinds changed, which leaves them lawful.
+    // The task of a plate with all kinds changed, where that keeps to the limits.
     fn with_kinds<C: Change<Kind>>(&self, length: u16, width: u16, by: &C) -> Task
-        requires plate { (length ≤ 3200) × (width ≤ 3200) }
-        requires sides { EachKind LawfulSides (map (C.Change.changed by.now) (model self.now).kinds) }
-        requires values { EachKind LawfulValue (map (C.Change.changed by.now) (model self.now).kinds) }
+        requires { WithinLimits (given length width (map (C.Change.changed by.now) (model self.now).kinds)) }
         ensures { model result ≡ given length width (map (C.Change.changed by.now) (model self.now).kinds) }
     {
-        let mut kinds = self.kinds;
-        change_all(&mut kinds, by);
         Task {
             length,
             width,
-            count: self.count,
-            kinds,
+            kinds: self.kinds.changed(by),
         }
     }
 
-    // The task of a plate with `by` added to the sides of all kinds.
+    // The task of a plate with `by` added to the sides of all kinds, where that keeps to the limits.
     fn with_kinds_widened(&self, by: u16, length: u16, width: u16) -> Task
-        requires plate { (length ≤ 3200) × (width ≤ 3200) }
-        requires room { (by ≤ 3200) × EachKind (KindWithin (3200 - by)) (model self.now).kinds }
+        requires { WithinLimits (given length width (map (with_panel (widened_panel by)) (model self.now).kinds)) }
         ensures { model result ≡ given length width (map (with_panel (widened_panel by)) (model self.now).kinds) }
     {
-        self.with_kinds::<Widen>(length, width, &Widen(by))
+        self.with_kinds(length, width, &Widen(by))
     }
 
     // The task with the sides of the plate and of all kinds exchanged.
     pub fn exchanged(&self) -> Task
         ensures { model result ≡ exchanged_model (model self.now) }
     {
-        self.with_kinds::<Exchange>(self.width, self.length, &Exchange)
+        self.with_kinds(self.width, self.length, &Exchange)
     }
 
     // The task with a border of breadth `by` taken off the plate; a plate too small for it has no side left.
@@ -104,7 +80,6 @@ impl Task {
         Task {
             length: self.length.saturating_sub(by).saturating_sub(by),
             width: self.width.saturating_sub(by).saturating_sub(by),
-            count: self.count,
             kinds: self.kinds,
         }
     }
@@ -113,7 +88,8 @@ impl Task {
     pub fn widened(&self, by: u16) -> Option<Task>
         ensures { MatchOption result (WithinLimits (widened_model by (model self.now)) → ⊥) (λ t. model t ≡ widened_model by (model self.now)) }
     {
-        if by > GREATEST_SIDE || !self.within(GREATEST_SIDE - by) {
+        let room = GREATEST_SIDE.checked_sub(by)?;
+        if !self.within(room) {
             return None;
         }
         Some(self.with_kinds_widened(by, self.length + by, self.width + by))

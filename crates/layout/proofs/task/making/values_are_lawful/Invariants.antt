@@ -1,7 +1,0 @@
-use Rattle.std.proofs.Common.{ℕ, ◌<◌, get_or}
-use Rattle.layout.specs.Limits.{LawfulValue, no_kind}
-use Rattle.layout.proofs.task.making.values_are_lawful.Given as goal
-
--- the kinds so far have lawful values
-abbrev pub invariant-loop-k : goal.invariant-loop-k
-invariant-loop-k l = (i : ℕ) → i < l.k-index → LawfulValue (get_or l.kinds i no_kind)
