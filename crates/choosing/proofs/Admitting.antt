@@ -2,32 +2,14 @@
 use Rattle.std.proofs.Common.{◌≡◌, ℕ, zero, suc, ◌+◌, ◌-◌, ◌<◌, ◌≤◌, Bool, true, false, cond, leb, ◌⊎◌, List, [], ◌∷◌, length, take, sym, refl, ap, ◌∙◌, subst, inl, inr, ⊎_elim, arith}
 use lib.Seq.{take-length}
 use Rattle.std.proofs.lemmas.List.{length-take-le}
-use Rattle.std.proofs.lemmas.Bool.{cases_Bool, cases_order, cond-true, cond-false, leb-true, leb-false}
+use Rattle.std.proofs.lemmas.Bool.{cases_order, cases_cond, leb-true, leb-false}
 use Rattle.choosing.specs.Worth.{Scale, Laws}
 use Rattle.choosing.specs.Choice.{size_at, worth_at, total_size, total_worth, Known, Feasible, best, first, most}
 use Rattle.choosing.specs.Recursion.{larger, Admission, Commutes}
 use Rattle.choosing.specs.declared.Candidate.{Candidate}
 use Rattle.choosing.proofs.Choosing.{Sound, right_best}
-use Rattle.choosing.proofs.Orders.{one_way, not_below, raised_not}
+use Rattle.choosing.proofs.Orders.{not_below, raised_not, larger_left, larger_right}
 use Rattle.choosing.proofs.Unique.{is_most}
-
--- ---- the larger of two
-
-module _ {W : Type 0} {s : Scale W} (laws : Laws s) (a b : W) where
-  larger_is : (larger s a b ≡ a) ⊎ (larger s a b ≡ b)
-  larger_is = ⊎_elim (λ t. inr (cond-true (s.less a b) b a t)) (λ f. inl (cond-false (s.less a b) b a f)) (cases_Bool (s.less a b))
-
-  larger_left : s.less (larger s a b) a ≡ false
-  larger_left =
-      ⊎_elim (λ t. subst (λ w. s.less w a ≡ false) (sym (cond-true (s.less a b) b a t)) (one_way laws a b t))
-      (λ f. subst (λ w. s.less w a ≡ false) (sym (cond-false (s.less a b) b a f)) (laws.never a))
-      (cases_Bool (s.less a b))
-
-  larger_right : s.less (larger s a b) b ≡ false
-  larger_right =
-      ⊎_elim (λ t. subst (λ w. s.less w b ≡ false) (sym (cond-true (s.less a b) b a t)) (laws.never b))
-      (λ f. subst (λ w. s.less w b ≡ false) (sym (cond-false (s.less a b) b a f)) f)
-      (cases_Bool (s.less a b))
 
 -- ---- sequences of the first k candidates
 
@@ -169,9 +151,9 @@ module _ {W : Type 0} {s : Scale W} (laws : Laws s) (commutes : Commutes s) (can
 
     fits : size_at cands k ≤ x → larger s without taken ≡ most s more x
     fits small =
-        ⊎_elim (λ e. is_most laws more sound_more x (larger s without taken) (first s fewer x).order reached_without.0 (reached_without.1 ∙ sym e) none_more)
-        (λ e. is_most laws more sound_more x (larger s without taken) (k ∷ (first s more left).order) reached_taken.0 (reached_taken.1 ∙ sym e) none_more)
-        (larger_is laws without taken)
+        ⊎_elim (λ e. is_most laws more sound_more x (larger s without taken) (k ∷ (first s more left).order) reached_taken.0 (reached_taken.1 ∙ sym e) none_more)
+        (λ e. is_most laws more sound_more x (larger s without taken) (first s fewer x).order reached_without.0 (reached_without.1 ∙ sym e) none_more)
+        (cases_cond (s.less without taken) taken without (larger s without taken) refl)
       where
         reached_taken : Feasible more x (k ∷ (first s more left).order) × (total_worth s more (k ∷ (first s more left).order) ≡ taken)
         reached_taken =

@@ -3,11 +3,8 @@ pub mod Choosing
 pub mod Filling
 pub mod Picking
 pub mod Unique
-pub mod Offers
-pub mod Tables
 pub mod Admitting
 pub mod Alike
 pub mod Answering
+pub mod Offers
 pub mod Fairness
-pub mod Reaching
-pub mod Walking

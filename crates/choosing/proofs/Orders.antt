@@ -1,22 +1,18 @@
 -- What the laws of a worth give of its order.
-use Rattle.std.proofs.Common.{◌≡◌, Bool, true, false, sym, refl, subst, ⊎_elim}
-use Rattle.std.proofs.lemmas.Bool.{cases_Bool, both_ways}
+use Rattle.std.proofs.Common.{◌≡◌, Bool, true, false, cond, sym, refl, subst, ◌∙◌, ⊎_elim}
+use Rattle.std.proofs.lemmas.Bool.{cases_Bool, both_ways, false_from_ne_true, cond-true, cond-false, cond_both}
 use Rattle.choosing.specs.Worth.{Scale, Laws}
-
--- a test that cannot pass fails
-pub fails : (t : Bool) → (t ≡ true → ⊥) → t ≡ false
-fails true no_way = absurd (no_way refl)
-fails false no_way = refl
+use Rattle.choosing.specs.Recursion.{larger}
 
 module _ {W : Type 0} {s : Scale W} (laws : Laws s) where
   -- less holds one way only
   pub one_way : (a b : W) → s.less a b ≡ true → s.less b a ≡ false
-  one_way a b h = fails (s.less b a) (λ e. both_ways (s.less a a) (laws.never a) (laws.chain a b a h e))
+  one_way a b h = false_from_ne_true (s.less b a) (λ e. both_ways (s.less a a) (laws.never a) (laws.chain a b a h e))
 
   -- b is no less than a, and c is no less than b
   pub not_below : (a b c : W) → s.less b a ≡ false → s.less c b ≡ false → s.less c a ≡ false
   not_below a b c ba cb =
-      fails (s.less c a)
+      false_from_ne_true (s.less c a)
       (λ ca.
       ⊎_elim (λ ab. both_ways (s.less c b) cb (laws.chain c a b ca ab))
       (λ ab. both_ways (s.less c b) cb (subst (λ x. s.less c x ≡ true) (laws.total a b ab ba) ca))
@@ -40,7 +36,7 @@ module _ {W : Type 0} {s : Scale W} (laws : Laws s) where
     where
       apart : (x y : W) → s.plus c x ≡ s.plus c y → s.less x y ≡ false
       apart x y same =
-          fails (s.less x y)
+          false_from_ne_true (s.less x y)
           (λ h. both_ways (s.less (s.plus c x) (s.plus c x)) (laws.never (s.plus c x)) (subst (λ z. s.less (s.plus c x) z ≡ true) (sym same) (laws.raised c x y h)))
 
   -- a worth above nothing, added to one that is not below nothing, is above nothing
@@ -52,3 +48,24 @@ module _ {W : Type 0} {s : Scale W} (laws : Laws s) where
   pub up_to : (a b c : W) → s.less b a ≡ false → s.less b c ≡ true → s.less a c ≡ true
   up_to a b c ba bc =
       ⊎_elim (λ ab. laws.chain a b c ab bc) (λ ab. subst (λ x. s.less x c ≡ true) (laws.total b a ba ab) bc) (cases_Bool (s.less a b))
+
+  -- ---- the larger of two
+
+  pub larger_left : (a b : W) → s.less (larger s a b) a ≡ false
+  larger_left a b = cond_both (s.less a b) b a (λ w. s.less w a ≡ false) (one_way a b) (λ f. laws.never a)
+
+  pub larger_right : (a b : W) → s.less (larger s a b) b ≡ false
+  larger_right a b = cond_both (s.less a b) b a (λ w. s.less w b ≡ false) (λ t. laws.never b) (λ f. f)
+
+  -- where the second is no less, it is the larger
+  pub larger_right_is : (a b : W) → s.less b a ≡ false → larger s a b ≡ b
+  larger_right_is a b no_less = cond_both (s.less a b) b a (λ w. w ≡ b) (λ t. refl) (λ f. laws.total a b f no_less)
+
+  pub larger_assoc : (a b c : W) → larger s a (larger s b c) ≡ larger s (larger s a b) c
+  larger_assoc a b c = by (s.less a b) (s.less b c) refl refl
+    where
+      by : (p q : Bool) → s.less a b ≡ p → s.less b c ≡ q → larger s a (cond q c b) ≡ larger s (cond p b a) c
+      by true true e f = cond-true (s.less a c) c a (laws.chain a b c e f) ∙ sym (cond-true (s.less b c) c b f)
+      by true false e f = cond-true (s.less a b) b a e ∙ sym (cond-false (s.less b c) c b f)
+      by false true e f = refl
+      by false false e f = cond-false (s.less a b) b a e ∙ sym (cond-false (s.less a c) c a (not_below c b a f e))

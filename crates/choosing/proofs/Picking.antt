@@ -1,33 +1,13 @@
--- Which candidate the choice begins with: the first whose offer is the greatest worth.
-use Rattle.std.proofs.Common.{◌≡◌, ℕ, ◌+◌, ◌-◌, ◌<◌, ◌≤◌, true, false, ◌⊎◌, List, ◌∷◌, length, Some, None, sym, ap, ◌∙◌, subst, inl, inr, ⊎_elim, arith}
-use Rattle.std.proofs.lemmas.Bool.{both_ways, cases_order}
+-- Which candidate the choice begins with.
+use Rattle.std.proofs.Common.{◌≡◌, ℕ, ◌+◌, ◌-◌, ◌<◌, ◌≤◌, false, List, [], ◌∷◌, length, Option, MatchOption, slice_get, sym, ap, ◌∙◌, subst, ⊎_elim, zero-add}
 use Rattle.choosing.specs.Worth.{Scale, Laws}
-use Rattle.choosing.specs.Choice.{size_at, worth_at, first, most, head_of}
+use Rattle.choosing.specs.Choice.{size_at, first, most}
+use Rattle.std.specs.List.{position_from}
+use Rattle.choosing.specs.Limits.{Filled}
+use Rattle.choosing.specs.Turns.{reaches_goal, Begins}
+use Rattle.choosing.proofs.Filling.{first_picked}
 use Rattle.choosing.specs.declared.Candidate.{Candidate}
-use Rattle.choosing.proofs.Choosing.{Sound, Leads, offer, chosen_first, most_least}
-use Rattle.choosing.proofs.Orders.{below, sum_above}
-
--- no candidate below k is one to begin with
-abbrev pub Passed : {W : Type 0} → Scale W → List (Candidate W) → ℕ → ℕ → Type 0
-Passed s cands cap k = (i : ℕ) → i < k → i < length cands → size_at cands i ≤ cap → offer s (first s cands) cap cands i ≡ most s cands cap → ⊥
-
-module _ {W : Type 0} {s : Scale W} (laws : Laws s) (cands : List (Candidate W)) (sound : Sound s cands) (cap : ℕ) where
-  pub picked : (k : ℕ) → k < length cands → size_at cands k ≤ cap → offer s (first s cands) cap cands k ≡ most s cands cap → Passed s cands cap k → Some k ≡ head_of (first s cands cap).order
-  picked k within fits same passed =
-      ⊎_elim (λ n. absurd (n.none k within fits)) (λ x. at x.0 x.1 (cases_order x.0 k)) (chosen_first laws cands sound cap)
-    where
-      at : (j : ℕ) → Leads s (first s cands) cap 0 cands (first s cands cap) j → ((j ≡ k) ⊎ ((j < k) ⊎ (k < j))) → Some k ≡ head_of (first s cands cap).order
-      at j l (inl e) = let z : k ≡ 0 + j = omega arith in ap (λ n. Some n) z ∙ sym (ap (λ r. head_of r.order) l.is)
-      at j l (inr (inl lt)) = absurd (passed j lt l.known l.fits (sym (ap (λ r. r.worth) l.is)))
-      at j l (inr (inr gt)) =
-          absurd (both_ways (s.less (offer s (first s cands) cap cands k) (offer s (first s cands) cap cands k)) (laws.never (offer s (first s cands) cap cands k))
-          (subst (λ w. s.less (offer s (first s cands) cap cands k) w ≡ true) (sym (ap (λ r. r.worth) l.is) ∙ sym same) (l.earliest k gt fits)))
-
-  pub none_picked : (k : ℕ) → length cands ≤ k → Passed s cands cap k → None ≡ head_of (first s cands cap).order
-  none_picked k all passed =
-      ⊎_elim (λ n. sym (ap (λ r. head_of r.order) n.is))
-      (λ x. absurd (passed x.0 (omega (arith, x.1.known)) x.1.known x.1.fits (sym (ap (λ r. r.worth) x.1.is))))
-      (chosen_first laws cands sound cap)
+use Rattle.choosing.proofs.Choosing.{Sound, offer, chosen_first}
 
 -- no candidate offers more than the greatest worth
 pub no_more : {W : Type 0} {s : Scale W} (laws : Laws s) (cands : List (Candidate W)) (sound : Sound s cands) (cap i : ℕ) → i < length cands → size_at cands i ≤ cap → s.less (most s cands cap) (offer s (first s cands) cap cands i) ≡ false
@@ -36,29 +16,20 @@ no_more {W} {s} laws cands sound cap i known fits =
     (λ x. subst (λ w. s.less w (offer s (first s cands) cap cands i) ≡ false) (sym (ap (λ r. r.worth) x.1.is)) (x.1.greatest i known fits))
     (chosen_first laws cands sound cap)
 
--- what stands behind the first candidate of the choice is the choice in the room that it leaves
-pub walked : {W : Type 0} {s : Scale W} (laws : Laws s) (cands : List (Candidate W)) (sound : Sound s cands) (cap k : ℕ) → Some k ≡ head_of (first s cands cap).order → (k < length cands) × (size_at cands k ≤ cap) × ((first s cands cap).order ≡ k ∷ (first s cands (cap - size_at cands k)).order)
-walked {W} {s} laws cands sound cap k head =
-    ⊎_elim (λ n. absurd (none_is_none k (head ∙ ap (λ r. head_of r.order) n.is)))
-    (λ x. at x.0 x.1 (some_same k (0 + x.0) (head ∙ ap (λ r. head_of r.order) x.1.is)))
+-- the first candidate that reaches the greatest worth is the one that the first sequence begins with; where none does, that is empty
+pub begins : {W : Type 0} {s : Scale W} (laws : Laws s) (table : List W) (cands : List (Candidate W)) (sound : Sound s cands) (takes : (i : ℕ) → i < length cands → 50 ≤ size_at cands i) (cap : ℕ) → Filled s table cands (cap + 1) → (goal : W) → goal ≡ most s cands cap → (o : Option ℕ) → o ≡ position_from (reaches_goal s table cap goal) 0 cands → MatchOption o ((first s cands cap).order ≡ []) (λ k. Begins s cands cap k)
+begins {W} {s} laws table cands sound takes cap filled goal goal_is o is =
+    ⊎_elim (λ n. subst Claim (sym (head ∙ ap (λ r. slice_get r.order 0) n.is)) (ap (λ r. r.order) n.is))
+    (λ x. subst Claim (sym (head ∙ ap (λ r. slice_get r.order 0) x.1.is)) (subst (Begins s cands cap) (sym (zero-add x.0)) (record {
+      known = x.1.known;
+      takes = takes x.0 x.1.known;
+      fits = x.1.fits;
+      on = ap (λ r. r.order) x.1.is ∙ ap (λ k. k ∷ (first s cands (cap - size_at cands x.0)).order) (zero-add x.0);
+    })))
     (chosen_first laws cands sound cap)
   where
-    none_is_none : (n : ℕ) → Some n ≡ None → ⊥
-    none_is_none n e = let z : ◌≡◌ {A = ℕ} 0 1 = cc in omega arith
+    Claim : Option ℕ → Type 0
+    Claim p = MatchOption p ((first s cands cap).order ≡ []) (λ k. Begins s cands cap k)
 
-    some_same : (m n : ℕ) → Some m ≡ Some n → m ≡ n
-    some_same m n e = cc
-
-    at : (j : ℕ) → Leads s (first s cands) cap 0 cands (first s cands cap) j → k ≡ 0 + j → (k < length cands) × (size_at cands k ≤ cap) × ((first s cands cap).order ≡ k ∷ (first s cands (cap - size_at cands k)).order)
-    at j l e =
-        let same : j ≡ k = omega arith in
-        subst (λ n. (n < length cands) × (size_at cands n ≤ cap) × ((first s cands cap).order ≡ n ∷ (first s cands (cap - size_at cands n)).order)) same
-        (l.known, l.fits, ap (λ r. r.order) l.is ∙ (let z : 0 + j ≡ j = omega arith in ap (λ n. n ∷ (first s cands (cap - size_at cands j)).order) z))
-
--- where a candidate fits, the greatest worth is more than nothing
-pub fits_more : {W : Type 0} {s : Scale W} (laws : Laws s) (cands : List (Candidate W)) (sound : Sound s cands) (cap i : ℕ) → i < length cands → size_at cands i ≤ cap → s.less s.nothing (most s cands cap) ≡ true
-fits_more {W} {s} laws cands sound cap i known fits =
-    let left : ℕ = cap - size_at cands i in
-    below laws s.nothing (offer s (first s cands) cap cands i) (most s cands cap)
-    (sum_above laws (worth_at s cands i) (most s cands left) (sound.value i known) (most_least laws cands sound left))
-    (no_more laws cands sound cap i known fits)
+    head : o ≡ slice_get (first s cands cap).order 0
+    head = is ∙ first_picked laws table cands sound cap filled goal goal_is

@@ -1,15 +1,16 @@
 -- There is one first sequence, and it depends only on what is feasible.
 use Rattle.std.proofs.Common.{◌≡◌, ℕ, zero, suc, ◌-◌, ◌<◌, ◌≤◌, Bool, true, false, cond, leb, List, [], ◌∷◌, length, sym, refl, ap, ◌∙◌, subst, inl, inr, ⊎_elim, arith}
-use Rattle.std.proofs.lemmas.Bool.{cases_Bool, cond-true, cond-false, leb-true, leb-false}
+use Rattle.std.proofs.lemmas.Bool.{leb-true, leb-false}
 use Rattle.choosing.specs.Worth.{Scale, Laws}
 use Rattle.choosing.specs.Choice.{size_at, total_worth, Feasible, Before, First, choose, best, first, most}
 use Rattle.choosing.specs.Recursion.{larger, best_offer, Recursion}
 use Rattle.choosing.specs.declared.Candidate.{Candidate}
 use Rattle.choosing.proofs.Choosing.{Sound, first_is_first, first_step, right_best}
 use Rattle.choosing.proofs.Filling.{worth_over, worth_fits}
+use Rattle.choosing.proofs.Orders.{larger_right_is}
 
 -- two sequences do not each come before the other
-not_both : (js ks : List ℕ) → Before js ks → Before ks js → ⊥
+pub not_both : (js ks : List ℕ) → Before js ks → Before ks js → ⊥
 not_both [] ks b c = b
 not_both (j ∷ js) [] b c = b
 not_both (j ∷ js) (k ∷ ks) (inl h) (inl g) = omega arith
@@ -67,13 +68,7 @@ module _ {W : Type 0} {s : Scale W} (laws : Laws s) (cands : List (Candidate W))
         r.step y
         ∙ ap (λ w. larger s w (best_offer s F (suc y) cands)) (same y (omega arith))
         ∙ ap (larger s (most s cands y)) (offers F (suc y) 0 cands sound.room same ∙ sym (ap (λ c. c.worth) (first_step s cands sound.room (suc y))))
-        ∙ grown
-      where
-        grown : larger s (most s cands y) (most s cands (suc y)) ≡ most s cands (suc y)
-        grown =
-            ⊎_elim (cond-true (s.less (most s cands y) (most s cands (suc y))) (most s cands (suc y)) (most s cands y))
-            (λ f. cond-false (s.less (most s cands y) (most s cands (suc y))) (most s cands (suc y)) (most s cands y) f ∙ laws.total (most s cands y) (most s cands (suc y)) f (most_grows y (suc y) (omega arith)))
-            (cases_Bool (s.less (most s cands y) (most s cands (suc y))))
+        ∙ larger_right_is laws (most s cands y) (most s cands (suc y)) (most_grows y (suc y) (omega arith))
 
     recursion_to : (F : ℕ → W) → Recursion s cands F → (n y : ℕ) → y ≤ n → F y ≡ most s cands y
     recursion_to F r zero zero h = r.start ∙ sym at_none

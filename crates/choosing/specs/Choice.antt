@@ -1,5 +1,5 @@
 -- The choice of a sequence of candidates within a capacity, of greatest worth and then first in order.
-use Rattle.std.specs.Prelude.{◌≡◌, ℕ, zero, suc, ◌+◌, ◌-◌, ◌<◌, ◌≤◌, false, cond, ◌⊎◌, List, [], ◌∷◌, length, Some, None, Option, nat_le}
+use Rattle.std.specs.Prelude.{◌≡◌, ℕ, zero, suc, ◌+◌, ◌-◌, ◌<◌, ◌≤◌, false, ◌⊎◌, List, [], ◌∷◌, length, nat_le, if◌then◌else◌}
 use Rattle.choosing.specs.Worth.{Scale}
 use Rattle.choosing.specs.declared.Candidate.{Candidate}
 
@@ -66,7 +66,7 @@ taking s k c r = record { worth = s.plus c.worth r.worth; order = k ∷ r.order 
 
 -- the first of two, unless the second is worth more
 abbrev pub prefer : {W : Type 0} → Scale W → Choice W → Choice W → Choice W
-prefer s a b = cond (s.less a.worth b.worth) b a
+prefer s a b = if s.less a.worth b.worth then b else a
 
 -- The best that begins with one of cs, which stand at k and on; rest is the best for each smaller capacity.
 -- What is not looked at is bound by a let, so that it is not computed.
@@ -75,7 +75,7 @@ choose s rest cap k [] = empty s
 choose s rest cap k (c ∷ cs) =
     let later = choose s rest cap (suc k) cs in
     let taken = prefer s (taking s k c (rest (cap - c.size))) later in
-    cond (nat_le c.size cap) taken later
+    if nat_le c.size cap then taken else later
 
 -- the best of at most n candidates
 unfoldable pub best : {W : Type 0} → Scale W → List (Candidate W) → ℕ → ℕ → Choice W
@@ -89,8 +89,3 @@ first s cands cap = best s cands cap cap
 -- the greatest worth
 abbrev pub most : {W : Type 0} → Scale W → List (Candidate W) → ℕ → W
 most s cands cap = (first s cands cap).worth
-
--- the position that a sequence begins with
-abbrev pub head_of : List ℕ → Option ℕ
-head_of [] = None
-head_of (k ∷ ks) = Some k

@@ -1,42 +1,33 @@
 -- What a candidate offers at a capacity, by a table of greatest worths: the code that fills the table and reads it speaks in these terms.
-use Rattle.std.specs.Prelude.{◌≡◌, ℕ, ◌-◌, ◌<◌, ◌≤◌, true, false, List, length, slice_index_or}
+use Rattle.std.specs.Prelude.{◌≡◌, ℕ, ◌-◌, ◌<◌, ◌≤◌, Bool, not, ◌&&◌, List, ◌∷◌, length, Some, None, Option, nat_le, slice_index_or, unwrap_or, if◌then◌else◌}
 use Rattle.choosing.specs.Worth.{Scale}
+use Rattle.choosing.specs.Choice.{size_at, first}
 use Rattle.choosing.specs.declared.Candidate.{Candidate}
 
--- t stands in the list at n
-abbrev pub Reads : {W : Type 0} → List W → ℕ → W → Type 0
-Reads list n t = t ≡ slice_index_or list n t
+-- a candidate's worth and what the table has for the room that it leaves
+abbrev pub sum_with : {W : Type 0} → Scale W → List W → ℕ → Candidate W → W
+sum_with s table capacity c = s.plus c.worth (slice_index_or table (capacity - c.size) s.nothing)
 
--- a candidate that fits offers its worth and what the table has for the room that it leaves
-pub record Offers {W : Type 0} (s : Scale W) (table : List W) (c : Candidate W) (capacity : ℕ) (sum : W) : Type 0 where
-  pub fits : c.size ≤ capacity
-  pub is : (t : W) → Reads table (capacity - c.size) t → sum ≡ s.plus c.worth t
+-- what a candidate offers, where it fits
+abbrev pub offer_of : {W : Type 0} → Scale W → List W → ℕ → Candidate W → Option W
+offer_of s table capacity c = if nat_le c.size capacity then Some (sum_with s table capacity c) else None
 
--- what a candidate's offer asks: the table has a place for the room that it leaves, and the sum is one of at most 4,096 pieces
-pub record Offerable {W : Type 0} (s : Scale W) (within : ℕ → W → Type 0) (table : List W) (c : Candidate W) (capacity : ℕ) : Type 0 where
-  pub room : capacity ≤ length table
-  pub takes : 50 ≤ c.size
-  pub bounded : c.size ≤ capacity → (t : W) → Reads table (capacity - c.size) t → within 4096 (s.plus c.worth t)
+-- the same, and nothing where it does not fit
+abbrev pub offer_or_nothing : {W : Type 0} → Scale W → List W → ℕ → Candidate W → W
+offer_or_nothing s table capacity c = unwrap_or (offer_of s table capacity c) s.nothing
 
--- a candidate fits, and its offer is not less than the goal
-pub record Reaches {W : Type 0} (s : Scale W) (table : List W) (capacity : ℕ) (goal : W) (c : Candidate W) : Type 0 where
-  pub fits : c.size ≤ capacity
-  pub enough : (t : W) → Reads table (capacity - c.size) t → s.less (s.plus c.worth t) goal ≡ false
+-- whether a candidate fits, and offers no less than the goal
+abbrev pub reaches_goal : {W : Type 0} → Scale W → List W → ℕ → W → Candidate W → Bool
+reaches_goal s table capacity goal c = nat_le c.size capacity && not (s.less (sum_with s table capacity c) goal)
 
--- where a candidate fits, its offer is less than the goal
-abbrev pub Misses : {W : Type 0} → Scale W → List W → ℕ → W → Candidate W → Type 0
-Misses {W} s table capacity goal c = c.size ≤ capacity → (t : W) → Reads table (capacity - c.size) t → s.less (s.plus c.worth t) goal ≡ true
+-- what an offer asks of a candidate that fits: the table has a place for the room that it leaves, and the sum is one of at most 4,096 pieces
+pub record Offerable {W : Type 0} (s : Scale W) (within : ℕ → W → Type 0) (table : List W) (capacity : ℕ) (c : Candidate W) : Type 0 where
+  pub room : c.size ≤ capacity → capacity - c.size < length table
+  pub bounded : c.size ≤ capacity → ∥ within 4096 (sum_with s table capacity c) ∥₁
 
--- P holds of the candidate at k
-abbrev pub HoldsAt : {W : Type 0} → (Candidate W → Type 0) → List (Candidate W) → ℕ → Type 0
-HoldsAt {W} P cands k = (c : Candidate W) → Reads cands k c → P c
-
--- P holds of each candidate
-abbrev pub Each : {W : Type 0} → (Candidate W → Type 0) → List (Candidate W) → Type 0
-Each P cands = (k : ℕ) → k < length cands → HoldsAt P cands k
-
--- the candidate at k is the first that reaches the goal
-pub record FirstReaching {W : Type 0} (s : Scale W) (table : List W) (cands : List (Candidate W)) (capacity : ℕ) (goal : W) (k : ℕ) : Type 0 where
+-- the first sequence begins with candidate k, which takes room and fits, and goes on as the first sequence in the room that is left
+pub record Begins {W : Type 0} (s : Scale W) (cands : List (Candidate W)) (capacity k : ℕ) : Type 0 where
   pub known : k < length cands
-  pub reaches : HoldsAt (Reaches s table capacity goal) cands k
-  pub before : (i : ℕ) → i < k → HoldsAt (Misses s table capacity goal) cands i
+  pub takes : 50 ≤ size_at cands k
+  pub fits : size_at cands k ≤ capacity
+  pub on : (first s cands capacity).order ≡ k ∷ (first s cands (capacity - size_at cands k)).order

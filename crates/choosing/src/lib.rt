@@ -4,25 +4,23 @@
 ghost use Rattle.std.specs.Prelude.{◌≡◌, length, MatchOption};
 ghost use Rattle.choosing.specs.Calls.{Choosable, GreatestWorth, Selected, Tabled, Workable};
 
-use limits::{LONGEST, is_workable};
-use sequence::select;
-use table::fill;
+use knapsack::{Knapsack, LONGEST};
 use worth::Worth;
 
-mod limits;
+mod knapsack;
 mod sequence;
 mod table;
 pub mod worth;
 
 // One candidate: the room that it takes and what it is worth.
-#[derive(Clone, Copy)]
+#[derive(Clone, Copy, Debug, Default, PartialEq, Eq)]
 pub struct Candidate<W> {
     pub size: usize,
     pub worth: W,
 }
 
-// A chosen sequence: how many positions it has, and what it is worth.
-#[derive(Clone, Copy)]
+// A chosen sequence: how many positions it has, and what it is worth. The positions are in lent memory, as all work memory is.
+#[derive(Clone, Copy, Debug, PartialEq, Eq)]
 pub struct Selection<W> {
     pub count: usize,
     pub worth: W,
@@ -38,11 +36,8 @@ pub fn greatest_worth<W: Worth>(
     ensures answered { MatchOption result (Workable W.scale W.within candidates.now capacity (length table.old) → ⊥) (λ worth. Workable W.scale W.within candidates.now capacity (length table.old) × GreatestWorth W.scale candidates.now capacity worth) }
     ensures left { MatchOption result (table.new ≡ table.old) (λ _. Tabled W.scale candidates.now capacity table.old table.new) }
 {
-    if is_workable(candidates, capacity, table.len()) {
-        Some(fill(table, candidates, capacity))
-    } else {
-        None
-    }
+    let knapsack = Knapsack::new(candidates, capacity, table.len())?;
+    Some(knapsack.fill(table))
 }
 
 // The first of the sequences of greatest worth: at the first difference the earlier candidate is first. Its positions are written to the front of `order`.
@@ -56,11 +51,11 @@ pub fn choose<W: Worth>(
     ensures answered { MatchOption result (Choosable W.scale W.within candidates.now capacity (length table.old) (length order.old) → ⊥) (λ chosen. Choosable W.scale W.within candidates.now capacity (length table.old) (length order.old) × Selected W.scale candidates.now capacity chosen order.old order.new) }
     ensures left { MatchOption result ((table.new ≡ table.old) × (order.new ≡ order.old)) (λ _. Tabled W.scale candidates.now capacity table.old table.new) }
 {
-    if is_workable(candidates, capacity, table.len()) && order.len() >= LONGEST {
-        Some(select(candidates, capacity, table, order))
-    } else {
-        None
+    let knapsack = Knapsack::new(candidates, capacity, table.len())?;
+    if order.len() < LONGEST {
+        return None;
     }
+    Some(knapsack.select(table, order))
 }
 
 #[cfg(test)]

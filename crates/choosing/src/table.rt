@@ -1,58 +1,74 @@
 // The table of greatest worths, filled one capacity after the other.
-ghost use Rattle.std.specs.Prelude.{◌≡◌, ◌+◌, ◌<◌, ◌≤◌, length, MatchOption};
+ghost use Rattle.std.specs.Prelude.{◌≡◌, ◌<◌, ◌≤◌, All, fold, length, map};
 ghost use Rattle.choosing.specs.Choice.{most};
 ghost use Rattle.choosing.specs.Recursion.{larger};
-ghost use Rattle.choosing.specs.Turns.{Offerable, Offers};
-ghost use Rattle.choosing.specs.Limits.{Fair, Filled};
-ghost use Rattle.choosing.specs.Calls.{GreatestWorth, Tabled, Workable};
+ghost use Rattle.choosing.specs.Turns.{Offerable, offer_of, offer_or_nothing};
+ghost use Rattle.choosing.specs.Limits.{Filled};
+ghost use Rattle.choosing.specs.Calls.{GreatestWorth, Tabled};
 
 use crate::Candidate;
+use crate::knapsack::Knapsack;
 use crate::worth::Worth;
 
-// The sum of a candidate's worth and of what the table has for the room that it leaves, or None where it does not fit.
-pub(crate) fn offer<W: Worth>(candidate: &Candidate<W>, table: &[W], capacity: usize) -> Option<W>
-    requires { Offerable W.scale W.within table.now candidate.now capacity }
-    ensures { MatchOption result (capacity < candidate.now.size) (λ sum. Offers W.scale table.now candidate.now capacity sum) }
-{
-    if candidate.size <= capacity {
-        Some(candidate.worth.plus(table[capacity - candidate.size]))
-    } else {
-        None
+impl<W: Worth> Candidate<W> {
+    // The sum of its worth and of what the table has for the room that it leaves, or None where it does not fit.
+    pub(crate) fn offer(&self, table: &[W], capacity: usize) -> Option<W>
+        requires { Offerable W.scale W.within table.now capacity self.now }
+        ensures { result ≡ offer_of W.scale table.now capacity self.now }
+    {
+        let left = capacity.checked_sub(self.size)?;
+        Some(sum_of(self.worth, table[left]))
     }
 }
 
-// The larger of two worths.
+// The sum of two worths, where it is one of at most 4,096 pieces.
+fn sum_of<W: Worth>(one: W, other: W) -> W
+    requires { ∥ W.within 4096 (W.scale.plus one other) ∥₁ }
+    ensures { result ≡ W.scale.plus one other }
+{
+    one.plus(other)
+}
+
+// The larger of two worths: `max`, in the order that a worth has.
 fn larger_of<W: Worth>(one: W, other: W) -> W
     ensures { result ≡ larger W.scale one other }
 {
     if one.less(other) { other } else { one }
 }
 
-// The greatest worth at one capacity, from a table that has it for each smaller one.
-fn greatest<W: Worth>(table: &[W], candidates: &[Candidate<W>], capacity: usize) -> W
-    requires room { capacity ≤ length table.now }
-    requires limit { capacity ≤ 3200 }
-    requires fair { Fair W.scale W.within 64 candidates.now }
-    requires filled { Filled W.scale table.now candidates.now capacity }
-    ensures { result ≡ most W.scale candidates.now capacity }
-{
-    let mut best = W::nothing();
-    for c in candidates {
-        if let Some(sum) = offer(c, table, capacity) {
-            best = larger_of(best, sum);
-        }
+// The table is lent and grows from call to call, so what it holds is said in each clause, and not in a type.
+impl<W: Worth> Knapsack<'_, W> {
+    // The largest of what the candidates offer at a capacity, where what does not fit offers nothing.
+    fn largest_offer(&self, table: &[W], capacity: usize) -> W
+        requires { All (Offerable W.scale W.within table.now capacity) self.now.candidates.now }
+        ensures { result ≡ fold (larger W.scale) W.scale.nothing (map (offer_or_nothing W.scale table.now capacity) self.now.candidates.now) }
+    {
+        self.candidates
+            .iter()
+            .map(|c| c.offer(table, capacity).unwrap_or(W::nothing()))
+            .fold(W::nothing(), larger_of)
     }
-    best
-}
 
-// Writes the greatest worth at each capacity up to the one given, and answers the last.
-pub(crate) fn fill<W: Worth>(table: &mut [W], candidates: &[Candidate<W>], capacity: usize) -> W
-    requires workable { Workable W.scale W.within candidates.now capacity (length table.old) }
-    ensures greatest { GreatestWorth W.scale candidates.now capacity result }
-    ensures tabled { Tabled W.scale candidates.now capacity table.old table.new }
-{
-    for cap in 0..=capacity {
-        table[cap] = greatest(table, candidates, cap);
+    // The greatest worth at one capacity, from a table that has it for each smaller one.
+    fn greatest(&self, table: &[W], capacity: usize) -> W
+        requires room { capacity ≤ length table.now }
+        requires limit { capacity ≤ self.now.capacity }
+        requires filled { Filled W.scale table.now self.now.candidates.now capacity }
+        ensures { result ≡ most W.scale self.now.candidates.now capacity }
+    {
+        self.largest_offer(table, capacity)
     }
-    table[capacity]
+
+    // Writes the greatest worth at each capacity up to its own, and answers the last.
+    pub(crate) fn fill(&self, table: &mut [W]) -> W
+        requires { self.now.capacity < length table.old }
+        ensures greatest { GreatestWorth W.scale self.now.candidates.now self.now.capacity result }
+        ensures tabled { Tabled W.scale self.now.candidates.now self.now.capacity table.old table.new }
+    {
+        // By index: it is the capacity, and each entry is found from those before it.
+        for capacity in 0..=self.capacity {
+            table[capacity] = self.greatest(table, capacity);
+        }
+        table[self.capacity]
+    }
 }

@@ -19,8 +19,9 @@ fn first_of_equals(rt: HostRuntime) -> Result<(), Fail> {
     let mut order = [9; 64];
     assert_eq!(rt; greatest_worth(&candidates, 99, &mut table), Some(1));
     let chosen = choose(&candidates, 150, &mut table, &mut order).ok_or("refused")?;
-    assert!(rt; chosen.count == 2 && chosen.worth == 3);
-    assert!(rt; order[0] == 0 && order[1] == 1 && order[2] == 9);
+    assert_eq!(rt; chosen.count, 2);
+    assert_eq!(rt; chosen.worth, 3);
+    assert!(rt; order[..3] == [0, 1, 9]);
     Ok(())
 }
 

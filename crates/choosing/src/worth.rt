@@ -7,6 +7,7 @@ ghost use Rattle.choosing.specs.Numbers.{plain_laws, plain_limits};
 // The most that the plain worth of 64 pieces can be.
 const MOST_OF_64: u64 = 64_000_000;
 
+// It has a nothing, a sum and an order of its own: the laws of all three together speak of the one record `scale`, to which those of `Default`, `Add` and `Ord` would each have to be tied by a law more.
 pub trait Worth: Copy {
     // A nothing, a sum and an order.
     ghost scale: { Scale Self };

@@ -2,6 +2,8 @@
 use Rattle.std.proofs.Common.{◌≡◌, ℕ, ◌≤◌, Bool, true, false, ◌&&◌, leb, List, length, filter, refl, ap, ◌∙◌, arith}
 use Rattle.std.specs.List.{AllByRecursion}
 use Rattle.std.proofs.lemmas.Bool.{le-leb}
+use Rattle.std.proofs.lemmas.List.Elements.{All-from_recursion, recursion_from_All}
+use Rattle.std.proofs.lemmas.List.Sums.{length-filter, count_by-le-length}
 use Rattle.layout.specs.Tasks.{Model, WithinLimits}
 use Rattle.patterns.specs.declared.Oriented.{Oriented}
 use Rattle.patterns.specs.Counting.{Counts}
@@ -10,51 +12,43 @@ use Rattle.patterns.specs.Strips.{no_wider, no_longer}
 use Rattle.patterns.proofs.Lists.{all_each}
 use Rattle.patterns.proofs.Candidates.{Sizeable, all_no_longer, numbers_counts}
 use Rattle.engines.specs.Stock.{Stock}
-use Rattle.engines.proofs.Lists.{kept_same, kept_all, kept_few}
+use Rattle.engines.proofs.Lists.{kept_same, kept_all}
 
 and_true : (b : Bool) → (b && true) ≡ b
 and_true true = refl
 and_true false = refl
 
--- of numbers that are short enough those that fit are those that are no wider
-pub narrow_is : (l w h : ℕ) (os : List Oriented) → Stock l w os → filter (inside l h) os ≡ no_wider h os
-narrow_is l w h os stock =
-    kept_same (inside l h) (λ (o : Oriented). leb o.across h) os (all_each (λ o c. ap (λ b. b && leb o.across h) (le-leb o.along l c.along_most)) os stock.each)
+module _ (l w : ℕ) (os : List Oriented) (stock : Stock l w os) where
+  pub all_count : AllByRecursion (Counts l w) os
+  all_count = recursion_from_All (Counts l w) os stock.each
 
--- and of numbers that are narrow enough those that are no longer
-pub held_is : (l k w : ℕ) (os : List Oriented) → Stock k w os → filter (inside l w) os ≡ no_longer l os
-held_is l k w os stock =
-    kept_same (inside l w) (λ (o : Oriented). leb o.along l) os (all_each (λ o c. ap (λ b. leb o.along l && b) (le-leb o.across w c.across_most) ∙ and_true (leb o.along l)) os stock.each)
+  -- of numbers that are short enough those that fit are those that are no wider
+  pub narrow_is : (h : ℕ) → filter (inside l h) os ≡ no_wider h os
+  narrow_is h = kept_same (inside l h) (λ (o : Oriented). leb o.across h) os (all_each (λ o c. ap (λ b. b && leb o.across h) (le-leb o.along l c.along_most)) os all_count)
 
--- the numbers that a shorter segment holds
-pub held_stock : (l k w : ℕ) (os : List Oriented) → l ≤ 3200 → Stock k w os → Stock l w (no_longer l os)
-held_stock l k w os small stock =
-    record {
-      few = omega (arith, stock.few, kept_few (λ (o : Oriented). leb o.along l) os);
-      along_most = small;
-      across_most = stock.across_most;
-      each =
-          all_each (λ o c. record { along_least = c.0.along_least; across_least = c.0.across_least; value_least = c.0.value_least; value_most = c.0.value_most; along_most = c.1; across_most = c.0.across_most })
-          (no_longer l os) (all_no_longer (Counts k w) l os stock.each);
-    }
+  -- and of numbers that are narrow enough those that are no longer
+  pub held_is : (k : ℕ) → filter (inside k w) os ≡ no_longer k os
+  held_is k = kept_same (inside k w) (λ (o : Oriented). leb o.along k) os (all_each (λ o c. ap (λ b. leb o.along k && b) (le-leb o.across w c.across_most) ∙ and_true (leb o.along k)) os all_count)
 
--- all of them, where the segment is as long as they may be
-pub all_held : (l w : ℕ) (os : List Oriented) → Stock l w os → no_longer l os ≡ os
-all_held l w os stock = kept_all (λ (o : Oriented). leb o.along l) os (all_each (λ o c. le-leb o.along l c.along_most) os stock.each)
+  -- the numbers that a shorter segment holds
+  pub held_stock : (k : ℕ) → k ≤ l → Stock k w (no_longer k os)
+  held_stock k le =
+      record {
+        few = omega (arith, stock.few, length-filter (λ (o : Oriented). leb o.along k) os, count_by-le-length (λ (o : Oriented). leb o.along k) os);
+        along_most = omega (arith, stock.along_most);
+        across_most = stock.across_most;
+        each =
+            All-from_recursion (Counts k w) (no_longer k os)
+            (all_each (λ o c. record { along_least = c.0.along_least; across_least = c.0.across_least; value_least = c.0.value_least; value_most = c.0.value_most; along_most = c.1; across_most = c.0.across_most }) (no_longer k os) (all_no_longer (Counts l w) k os all_count));
+      }
 
-pub stock_sizeable : (l w : ℕ) (os : List Oriented) → Stock l w os → AllByRecursion Sizeable os
-stock_sizeable l w os stock = all_each (λ o c. record { along_least = c.along_least; across_least = c.across_least; value_least = c.value_least }) os stock.each
+  -- all of them, where the segment is as long as they may be
+  pub all_held : no_longer l os ≡ os
+  all_held = kept_all (λ (o : Oriented). leb o.along l) os (all_each (λ o c. le-leb o.along l c.along_most) os all_count)
 
--- a longer plate holds them too
-pub longer_stock : (l k w : ℕ) (os : List Oriented) → l ≤ k → k ≤ 3200 → Stock l w os → Stock k w os
-longer_stock l k w os le small stock =
-    record {
-      few = stock.few;
-      along_most = small;
-      across_most = stock.across_most;
-      each = all_each (λ o c. record { along_least = c.along_least; across_least = c.across_least; value_least = c.value_least; value_most = c.value_most; along_most = omega (arith, c.along_most); across_most = c.across_most }) os stock.each;
-    }
+  pub stock_sizeable : AllByRecursion Sizeable os
+  stock_sizeable = all_each (λ o c. record { along_least = c.along_least; across_least = c.across_least; value_least = c.value_least }) os all_count
 
 -- the numbers of a task
 pub task_stock : (m : Model) → WithinLimits m → length (numbers m) ≤ 64 → Stock m.length m.width (numbers m)
-task_stock m ok few = record { few = few; along_most = ok.plate.0; across_most = ok.plate.1; each = numbers_counts m ok }
+task_stock m ok few = record { few = few; along_most = ok.plate.0; across_most = ok.plate.1; each = All-from_recursion (Counts m.length m.width) (numbers m) (numbers_counts m ok) }

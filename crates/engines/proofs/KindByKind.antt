@@ -4,7 +4,6 @@ use Rattle.std.proofs.lemmas.List.{at_drop_more, at_drop_all, append-nil}
 use Rattle.layout.specs.declared.panel.Kind.{Kind}
 use Rattle.patterns.specs.Numbers.{oriented, counts, keep, numbers_from}
 use Rattle.patterns.specs.declared.Oriented.{Oriented}
-use Rattle.engines.specs.Stock.{turn_allowed}
 
 keep_split : {A : Type 0} (b : Bool) (a : A) (rest : List A) → keep b a rest ≡ keep b a [] ++ rest
 keep_split true a rest = refl
@@ -20,19 +19,16 @@ both_kept front after last b₁ b₂ x y rest whole e₁ e₂ so_far =
     ∙ so_far
 
 module _ (l w i : ℕ) (ks : List Kind) where
-  -- one kind more: o and p are its two numbers
-  pub kind_more : (d : Kind) (o p : Oriented) (front after last : List Oriented) (b₁ b₂ : Bool) (whole : List Oriented) → i < length ks → o ≡ oriented i 0 (get_or ks i d) → p ≡ oriented i 1 (get_or ks i d)
-      → b₁ ≡ counts l w (get_or ks i d) (turn_allowed (get_or ks i d) o.turned) o → b₂ ≡ counts l w (get_or ks i d) (turn_allowed (get_or ks i d) p.turned) p
-      → after ≡ front ++ keep b₁ o [] → last ≡ after ++ keep b₂ p [] → front ++ numbers_from l w i (drop i ks) ≡ whole → last ++ numbers_from l w (i + 1) (drop (i + 1) ks) ≡ whole
-  kind_more d o p front after last b₁ b₂ whole known is_o is_p t₁ t₂ e₁ e₂ so_far =
+  -- one kind more: its two numbers come after those in front
+  pub kind_more : (d : Kind) (front after last whole : List Oriented) → i < length ks
+      → after ≡ front ++ keep (counts l w (get_or ks i d) true (oriented i 0 (get_or ks i d))) (oriented i 0 (get_or ks i d)) []
+      → last ≡ after ++ keep (counts l w (get_or ks i d) (get_or ks i d).panel.may_turn (oriented i 1 (get_or ks i d))) (oriented i 1 (get_or ks i d)) []
+      → front ++ numbers_from l w i (drop i ks) ≡ whole → last ++ numbers_from l w (i + 1) (drop (i + 1) ks) ≡ whole
+  kind_more d front after last whole known first second so_far =
       let k = get_or ks i d in
       let next : i + 1 ≡ suc i = omega arith in
-      let rest : List Oriented = numbers_from l w (suc i) (drop (i + 1) ks) in
-      let one : keep b₁ o [] ≡ keep (counts l w k true (oriented i 0 k)) (oriented i 0 k) [] = ap (λ b. keep b o []) t₁ ∙ ap (λ (q : Oriented). keep (counts l w k (turn_allowed k q.turned) q) q []) is_o in
-      let two : keep b₂ p [] ≡ keep (counts l w k k.panel.may_turn (oriented i 1 k)) (oriented i 1 k) [] = ap (λ b. keep b p []) t₂ ∙ ap (λ (q : Oriented). keep (counts l w k (turn_allowed k q.turned) q) q []) is_p in
       ap (λ n. last ++ numbers_from l w n (drop (i + 1) ks)) next
-      ∙ both_kept front after last (counts l w k true (oriented i 0 k)) (counts l w k k.panel.may_turn (oriented i 1 k)) (oriented i 0 k) (oriented i 1 k) rest whole
-      (e₁ ∙ ap (λ t. front ++ t) one) (e₂ ∙ ap (λ t. after ++ t) two)
+      ∙ both_kept front after last (counts l w k true (oriented i 0 k)) (counts l w k k.panel.may_turn (oriented i 1 k)) (oriented i 0 k) (oriented i 1 k) (numbers_from l w (suc i) (drop (i + 1) ks)) whole first second
       (sym (ap (λ t. front ++ t) (at_drop_more (numbers_from l w i) ks i d known)) ∙ so_far)
 
   pub kind_last : (front whole : List Oriented) → length ks ≤ i → front ++ numbers_from l w i (drop i ks) ≡ whole → front ≡ whole

@@ -1,5 +1,5 @@
-pub mod Lists
 pub mod KindByKind
+pub mod Lists
 pub mod Holding
 pub mod Fairness
 pub mod Chosen

@@ -1,16 +1,12 @@
 -- The dividing position by the worths of segments alone.
-use Rattle.std.specs.Prelude.{ℕ, zero, suc, ◌+◌, ◌-◌, cond, nat_lt}
-use Rattle.engines.specs.declared.dividing.Division.{Division}
+use Rattle.std.specs.Prelude.{ℕ, ◌+◌, ◌-◌, ◌<◌, ◌≤◌, List, slice_index}
 
--- the plate of length l divided at c
-abbrev pub divided_of : (ℕ → ℕ) → ℕ → ℕ → Division
-divided_of worth l c = record { place = c; worth = worth c + worth (l - c) }
+-- what the segments on both sides of c are worth together, by the worth of a segment of each length
+abbrev pub both_sides : List ℕ → ℕ → ℕ → ℕ
+both_sides worths l c = slice_index worths c + slice_index worths (l - c)
 
--- the second of two where it is worth more
-abbrev pub better_division : Division → Division → Division
-better_division before here = cond (nat_lt before.worth here.worth) here before
-
--- the best dividing position below n, the lowest of equals, and 0 before there is one
-abbrev pub division_below : (ℕ → ℕ) → ℕ → ℕ → Division
-division_below worth l zero = record { place = 0; worth = 0 }
-division_below worth l (suc n) = better_division (division_below worth l n) (divided_of worth l n)
+-- of the places up to the last this one has the greatest value, and it is the lowest such
+pub record LowestGreatest (value : ℕ → ℕ) (last place : ℕ) : Type 0 where
+  pub within : place ≤ last
+  pub greatest : (c : ℕ) → c ≤ last → value c ≤ value place
+  pub lowest : (c : ℕ) → c < place → value c < value place

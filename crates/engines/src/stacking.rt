@@ -1,105 +1,85 @@
 // The strips that are chosen for a segment: what they are worth, and their rows.
-ghost use Rattle.std.specs.Prelude.{◌≡◌, ◌+◌, ◌≤◌, map, length as size, take};
-ghost use Rattle.patterns.specs.Strips.{by_across, lay, no_longer};
-ghost use Rattle.engines.specs.Fillings.{stacked, strip_in};
-ghost use Rattle.engines.specs.Stock.{Stock};
-ghost use Rattle.engines.specs.Writing.{Written};
+ghost use Rattle.std.specs.Prelude.{◌≡◌, ◌+◌, ◌≤◌, map, length as size};
+ghost use Rattle.choosing.specs.Plain.{plain};
+ghost use Rattle.patterns.specs.Strips.{by_across, stack};
+ghost use Rattle.engines.specs.Fillings.{stacked, strip_of, strips_of};
+ghost use Rattle.engines.specs.Writing.{Written, side_rows};
 
+use crate::choice::{Choice, Table, chosen, worth_within};
+use crate::counting::MOST_NUMBERS;
+use crate::filling::Filling;
 use crate::laying::lay_strips;
-use crate::numbers::{MOST_NUMBERS, NO_NUMBER, fitting};
-use crate::segment::Segment;
-use crate::strip::{NO_CANDIDATE, strip_worth};
-use choosing::{Candidate, choose, greatest_worth};
+use crate::numbers::Numbers;
+use crate::segment::{Corner, Segment};
+use arrayvec::ArrayVec;
+use choosing::Candidate;
 use layout::row::Row;
-use patterns::Oriented;
 
-// The place after the rows that were written, and what they are worth.
+// How many rows were written, and what they are worth.
 #[derive(Clone, Copy)]
-pub(crate) struct Stacked {
-    pub(crate) end: usize,
+pub(crate) struct Laid {
+    pub(crate) rows: usize,
     pub(crate) worth: u64,
 }
 
-// Writes the strip of each number, as a candidate for the segment, to the front of `out`.
-fn write_strips(
-    segment: Segment,
-    numbers: &[Oriented],
-    table: &mut [u64],
-    out: &mut [Candidate<u64>],
-)
-    requires stock { Stock segment.length segment.width numbers.now }
-    requires table { 3201 ≤ size table.old }
-    requires places { 64 ≤ size out.old }
-    ensures { take (size numbers.now) out.new ≡ map by_across (map (strip_in segment numbers.now) numbers.now) }
+// The strip of each number as a candidate for the segment.
+fn strips<F: Filling>(
+    numbers: &Numbers,
+    table: &mut Table,
+) -> ArrayVec<Candidate<u64>, MOST_NUMBERS>
+    ensures { result.items ≡ map by_across (map (strip_of F.filled numbers.now.length numbers.now.list.items) numbers.now.list.items) }
 {
-    for (i, q) in numbers.iter().enumerate() {
-        out[i] = Candidate {
-            size: q.across as usize,
-            worth: strip_worth(segment, numbers, *q, table),
-        };
+    let mut candidates = ArrayVec::new();
+    for q in numbers.list.iter() {
+        candidates.push(Candidate {
+            size: usize::from(q.across),
+            worth: F::worth(numbers, *q, table),
+        });
     }
+    candidates
 }
 
-// Writes the numbers that the segment can hold to the front of `held`, and their strips as candidates to the front of `candidates`; answers how many.
-fn offer_strips(
-    segment: Segment,
-    numbers: &[Oriented],
-    table: &mut [u64],
-    held: &mut [Oriented],
-    candidates: &mut [Candidate<u64>],
-) -> usize
-    requires stock { Stock 3200 segment.width numbers.now }
-    requires along { segment.length ≤ 3200 }
-    requires table { 3201 ≤ size table.old }
-    requires places { 64 ≤ size held.old }
-    requires offers { 64 ≤ size candidates.old }
-    ensures few { result ≤ 64 }
-    ensures held { take result held.new ≡ no_longer segment.length numbers.now }
-    ensures offered { take result candidates.new ≡ map by_across (map (strip_in segment (no_longer segment.length numbers.now)) (no_longer segment.length numbers.now)) }
+// What the strips chosen for a segment of this length are worth.
+pub(crate) fn segment_worth<F: Filling>(numbers: &Numbers, length: u16, table: &mut Table) -> u64
+    requires { length ≤ numbers.now.length }
+    ensures { result ≡ (stacked F.filled length numbers.now.width numbers.now.list.items).worth }
 {
-    let n = fitting(numbers, segment.length, segment.width, held);
-    write_strips(segment, &held[0..n], table, candidates);
-    n
+    let held = numbers.no_longer(length);
+    worth_within(&strips::<F>(&held, table), held.width, table)
 }
 
-// What the strips chosen for a segment are worth.
-pub(crate) fn segment_worth(segment: Segment, numbers: &[Oriented], table: &mut [u64]) -> u64
-    requires stock { Stock 3200 segment.width numbers.now }
-    requires along { segment.length ≤ 3200 }
-    requires table { 3201 ≤ size table.old }
-    ensures { result ≡ (stacked segment numbers.now).worth }
+// The numbers whose strips are chosen for a segment, and what these are worth.
+fn chosen_strips<F: Filling>(numbers: &Numbers, table: &mut Table) -> Choice
+    ensures numbers { result.numbers.items ≡ strips_of F.filled numbers.now.length numbers.now.width numbers.now.list.items }
+    ensures worth { result.worth ≡ (stack plain numbers.now.width (map (strip_of F.filled numbers.now.length numbers.now.list.items) numbers.now.list.items)).worth }
 {
-    let mut held = [NO_NUMBER; MOST_NUMBERS];
-    let mut candidates = [NO_CANDIDATE; MOST_NUMBERS];
-    let n = offer_strips(segment, numbers, table, &mut held, &mut candidates);
-    greatest_worth(&candidates[0..n], segment.width as usize, table).unwrap()
+    let candidates = strips::<F>(numbers, table);
+    chosen(&numbers.list, &candidates, numbers.width, table)
 }
 
-// Writes the strips chosen for a segment to `rows` from place `start` on.
-pub(crate) fn lay_segment(
+// Writes the strips chosen for a segment to the front of the rows.
+pub(crate) fn lay_segment<F: Filling>(
+    numbers: &Numbers,
     segment: Segment,
-    numbers: &[Oriented],
-    table: &mut [u64],
+    table: &mut Table,
     rows: &mut [Row],
-    start: usize,
-) -> Stacked
-    requires stock { Stock 3200 segment.width numbers.now }
+) -> Laid
+    requires length { segment.length ≤ numbers.now.length }
     requires along { segment.x + segment.length ≤ 3200 }
-    requires table { 3201 ≤ size table.old }
-    requires room { start + size (lay segment.number 0 segment.x 0 (stacked segment numbers.now).strips) ≤ size rows.old }
-    ensures written { Written (lay segment.number 0 segment.x 0 (stacked segment numbers.now).strips) start rows.old rows.new result.end }
-    ensures worth { result.worth ≡ (stacked segment numbers.now).worth }
+    requires room { size (side_rows F.filled segment numbers.now.width numbers.now.list.items) ≤ size rows.old }
+    ensures written { Written (side_rows F.filled segment numbers.now.width numbers.now.list.items) rows.new result.rows }
+    ensures worth { result.worth ≡ (stacked F.filled segment.length numbers.now.width numbers.now.list.items).worth }
 {
-    let mut held = [NO_NUMBER; MOST_NUMBERS];
-    let mut candidates = [NO_CANDIDATE; MOST_NUMBERS];
-    let mut order = [0; MOST_NUMBERS];
-    let n = offer_strips(segment, numbers, table, &mut held, &mut candidates);
-    let width = segment.width as usize;
-    let chosen = choose(&candidates[0..n], width, table, &mut order).unwrap();
-    let count = chosen.count;
-    let end = lay_strips(segment, &held[0..n], &order[0..count], table, rows, start);
-    Stacked {
-        end,
-        worth: chosen.worth,
+    let held = numbers.no_longer(segment.length);
+    let choice = chosen_strips::<F>(&held, table);
+    let lowest = Corner {
+        segment: segment.number,
+        strip: 0,
+        x: segment.x,
+        y: 0,
+    };
+    Laid {
+        rows: lay_strips::<F>(&held, &choice.numbers, lowest, table, rows),
+        worth: choice.worth,
     }
 }

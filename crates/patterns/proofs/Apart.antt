@@ -1,8 +1,7 @@
 -- The patterns of both sets come apart in three stages.
-use Rattle.std.proofs.Common.{◌≡◌, ℕ, ◌+◌, ◌<◌, ◌≤◌, List, length, get_or, sym, ap, ◌∙◌, arith}
+use Rattle.std.proofs.Common.{◌≡◌, ℕ, ◌+◌, ◌<◌, ◌≤◌, List, length, get_or, sym, ap, ◌∙◌, All, arith}
 use native.Mathlib.Decide.{dec_lt}
-use Rattle.std.specs.List.{AllByRecursion}
-use Rattle.std.proofs.ByRecursion.{All-get_or}
+use Rattle.std.proofs.lemmas.List.Elements.{All-get_or}
 use Rattle.layout.specs.declared.row.Row.{Row}
 use Rattle.layout.specs.Apart.{plate, Inside, Sized}
 use Rattle.layout.specs.Pieces.{end, top, blank}
@@ -35,7 +34,7 @@ module _ (s : Shape) (a b : Row) (one : a.segment ≡ b.segment) where
   beside eq (before e l h x) = (h, omega arith)
 
 module _ (s : Shape) (sized : (r : Row) → Placed s r → (0 < along_of s r) × (0 < across_of s r)) (rows : List Row) where
-  module _ (placed : AllByRecursion (Placed s) rows) where
+  module _ (placed : All (Placed s) rows) where
     all_inside : (i : ℕ) → i < length rows → Inside ((pieces (panels s) rows).place i) (plate s.length s.width)
     all_inside i h = let p = All-get_or (Placed s) rows i blank h placed in omega (arith, p.inside_along, p.inside_across)
 

@@ -11,13 +11,13 @@ use Rattle.choosing.proofs.Picking.{no_more}
 use Rattle.choosing.proofs.Unique.{most_grows}
 use Rattle.choosing.specs.Numbers.{plain_laws}
 use Rattle.layout.specs.Tasks.{Model, WithinLimits}
+use Rattle.rules.specs.Rowwise.{sized_panel}
 use Rattle.patterns.specs.declared.Oriented.{Oriented}
 use Rattle.patterns.specs.Numbers.{numbers}
 use Rattle.patterns.specs.Strips.{Strip, by_value, by_along, by_across, no_wider, no_longer, times, general_strip, uniform_strip}
 use Rattle.patterns.specs.Named.{preferred}
 use Rattle.patterns.specs.Counting.{Counted, Counts, kind_at}
 use Rattle.patterns.proofs.Lists.{all_each, In, here, there, all_in, in_all, in_kept_by, all_tested}
-use Rattle.patterns.proofs.Sizes.{along_least}
 use Rattle.patterns.proofs.Numbered.{numbers_counted}
 
 -- ---- the choice's laws in numbers
@@ -74,7 +74,7 @@ pub record Sizeable (o : Oriented) : Type 0 where
 pub sizeable : (m : Model) → WithinLimits m → (o : Oriented) → Counted m o → Sizeable o
 sizeable m ok o c =
     let g = ok.sides o.kind c.known in
-    let z = along_least (kind_at m o).panel o.turned g.0.0 g.1.0 in
+    let z = sized_panel (kind_at m o).panel o.turned g.0.0 g.1.0 in
     record { along_least = omega (arith, z.0, c.along_is); across_least = omega (arith, z.1, c.across_is); value_least = omega (arith, (ok.values o.kind c.known).0, c.value_is) }
 
 -- those that are no wider, and those that are no longer

@@ -1,5 +1,6 @@
 -- A pattern of either set has at most 4,096 rows, and no strip above number 63.
 use Rattle.std.proofs.Common.{◌≡◌, ℕ, suc, ◌+◌, ◌-◌, ◌*◌, ◌/◌, ◌≤◌, List, [], ◌∷◌, length, mul-le-mul_right, suc-mul, arith}
+use Rattle.std.proofs.lemmas.List.Elements.{All-head, recursion_from_All}
 use Rattle.std.specs.List.{AllByRecursion}
 use Rattle.layout.specs.declared.row.Row.{Row}
 use Rattle.layout.specs.Pieces.{end, top}
@@ -52,7 +53,7 @@ module _ (s : Shape) (long : s.length ≤ 3200) (wide : s.width ≤ 3200) (sized
       let h : 50 * r.strip ≤ r.y = omega (arith, t.strip, t.level) in
       (h, strips_on r (p ∷ earlier) rows g each.0 h each.1)
   strips_on p earlier (r ∷ rows) (strip t g) placed low each =
-      let h : 50 * r.strip ≤ r.y = omega (arith, t.strip, t.above.0, sized p placed) in
+      let h : 50 * r.strip ≤ r.y = omega (arith, t.strip, All-head (λ (q : Row). top (panels s) q ≤ r.y) p earlier t.above, sized p placed) in
       (h, strips_on r [] rows g each.0 h each.1)
   strips_on p earlier (r ∷ rows) (segment t g) placed low each =
       let h : 50 * r.strip ≤ r.y = omega (arith, t.strip) in
@@ -70,12 +71,14 @@ module _ (s : Shape) (long : s.length ≤ 3200) (wide : s.width ≤ 3200) (sized
   pub two_staged_few : (rows : List Row) → TwoStagedSet s rows → length rows ≤ 4096
   two_staged_few [] set = omega arith
   two_staged_few (r ∷ rows) set =
+      let placed = recursion_from_All (Placed s) (r ∷ rows) set.placed in
+      let one = recursion_from_All (λ (b : Row). b.segment ≡ 0) (r ∷ rows) set.one in
       omega (
         arith,
         sum_one (r ∷ rows),
         segment_count 0 0 3200 64 (λ n h. omega arith) (λ (b : Row). Placed s b × (b.segment ≡ 0)) (λ b h. h.0) (λ b h e. omega arith) (λ b h e. omega (arith, h.0.inside_along))
             0 (λ q b rest e n g all. absurd (omega (arith, n.segment, all.0.1)))
-            r rows set.order.next set.one.0 (set.placed.0, set.one.0) (all_both (Placed s) (λ (b : Row). b.segment ≡ 0) rows set.placed.1 set.one.1),
+            r rows set.order.next one.0 (placed.0, one.0) (all_both (Placed s) (λ (b : Row). b.segment ≡ 0) rows placed.1 one.1),
       )
 
   pub three_staged_few : (rows : List Row) → ThreeStagedSet s rows → length rows ≤ 4096

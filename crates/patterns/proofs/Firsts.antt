@@ -1,5 +1,6 @@
 -- The first choice of positions in a list is the first sequence of the numbers that stand there; and there is only one.
-use Rattle.std.proofs.Common.{◌≡◌, ℕ, suc, ◌<◌, List, [], ◌∷◌, map, length, get_or, sym, refl, ap, ◌∙◌, subst, inl, inr, ⊎_elim, arith}
+use Rattle.std.proofs.Common.{◌≡◌, ℕ, suc, ◌<◌, List, [], ◌∷◌, map, length, get_or, sym, refl, ap, ◌∙◌, subst, inl, inr, ⊎_elim, All, arith}
+use Rattle.std.proofs.lemmas.List.Elements.{All-from_recursion, All-head, All-tail}
 use Rattle.std.specs.List.{AllByRecursion}
 use Rattle.std.proofs.lemmas.List.{length-map, get_or-map}
 use Rattle.std.proofs.lemmas.Bool.{ltb-false}
@@ -10,14 +11,10 @@ use Rattle.patterns.specs.declared.Oriented.{Oriented}
 use Rattle.patterns.specs.Numbers.{no_piece}
 use Rattle.patterns.specs.Sequences.{sum, Fits, FirstBest}
 use Rattle.patterns.specs.Strips.{at}
-use Rattle.patterns.proofs.Lists.{Pairs, pairs_at, In, here, there, in_all, all_in}
+use Rattle.patterns.proofs.Lists.{Pairs, pairs_at, In, here, there, in_every, all_in}
 use Rattle.patterns.proofs.Chosen.{Taken, taken_at}
 
 -- ---- maps
-
-pub map_twice : {A B C : Type 0} (g : B → C) (f : A → B) (xs : List A) → map g (map f xs) ≡ map (λ (a : A). g (f a)) xs
-map_twice g f [] = refl
-map_twice g f (x ∷ xs) = ap (λ ys. g (f x) ∷ ys) (map_twice g f xs)
 
 pub map_same : {A B : Type 0} (f g : A → B) (xs : List A) → AllByRecursion (λ (a : A). f a ≡ g a) xs → map f xs ≡ map g xs
 map_same f g [] same = refl
@@ -64,7 +61,7 @@ module _ (rank : Oriented → ℕ) (f : Oriented → Candidate ℕ) (xs : List O
   pub first_best : (Usable : Oriented → Type 0) (cap : ℕ) (ks : List ℕ) → ((p : Oriented) → Usable p → In p xs) → AllByRecursion Usable xs → First plain (map f xs) cap ks → FirstBest rank Usable (λ (o : Oriented). (f o).size) (λ (o : Oriented). (f o).worth) cap (at no_piece xs ks)
   first_best Usable cap ks inside ok first =
       record {
-        fits = record { usable = mine.each; within = omega (arith, mine.size_is, first.feasible.within) };
+        fits = record { usable = All-from_recursion Usable (at no_piece xs ks) mine.each; within = omega (arith, mine.size_is, first.feasible.within) };
         greatest = λ ps fits. let other = where_is ps fits in let t = total other in omega (arith, ap (sum (λ (o : Oriented). (f o).worth)) other.is, t.worth_is, mine.worth_is, ltb-false (total_worth plain (map f xs) ks) (total_worth plain (map f xs) other.places) (first.greatest other.places (feasible ps fits other)));
         earliest = λ ps fits same. let other = where_is ps fits in let t = total other in
             ⊎_elim (λ e. inl (sym other.is ∙ ap (at no_piece xs) e)) (λ b. inr (subst (λ qs. Before (map rank (at no_piece xs ks)) (map rank qs)) other.is (before_ranks ks other.places first.feasible.known other.known b)))
@@ -75,7 +72,7 @@ module _ (rank : Oriented → ℕ) (f : Oriented → Candidate ℕ) (xs : List O
       mine = taken_at f no_piece Usable xs ks ok first.feasible.known
 
       where_is : (ps : List Oriented) → Fits Usable (λ (o : Oriented). (f o).size) cap ps → Positions ps
-      where_is ps fits = positions ps (all_in (λ (p : Oriented). In p xs) ps (λ p i. inside p (in_all Usable i fits.usable)))
+      where_is ps fits = positions ps (all_in (λ (p : Oriented). In p xs) ps (λ p i. inside p (in_every Usable i fits.usable)))
 
       total : {ps : List Oriented} (other : Positions ps) → Taken f no_piece Usable xs other.places
       total other = taken_at f no_piece Usable xs other.places ok other.known
@@ -85,9 +82,9 @@ module _ (rank : Oriented → ℕ) (f : Oriented → Candidate ℕ) (xs : List O
 
 -- ---- the same under worths that agree on what may be used
 
-sum_same : (Usable : Oriented → Type 0) (v w : Oriented → ℕ) → ((q : Oriented) → Usable q → v q ≡ w q) → (qs : List Oriented) → AllByRecursion Usable qs → sum v qs ≡ sum w qs
+sum_same : (Usable : Oriented → Type 0) (v w : Oriented → ℕ) → ((q : Oriented) → Usable q → v q ≡ w q) → (qs : List Oriented) → All Usable qs → sum v qs ≡ sum w qs
 sum_same Usable v w same [] ok = refl
-sum_same Usable v w same (q ∷ qs) ok = omega (arith, same q ok.0, sum_same Usable v w same qs ok.1)
+sum_same Usable v w same (q ∷ qs) ok = omega (arith, same q (All-head Usable q qs ok), sum_same Usable v w same qs (All-tail Usable q qs ok))
 
 module _ (rank : Oriented → ℕ) (Usable : Oriented → Type 0) (size : Oriented → ℕ) (v w : Oriented → ℕ) (same : (q : Oriented) → Usable q → v q ≡ w q) (cap : ℕ) where
   pub first_best_by : (qs : List Oriented) → FirstBest rank Usable size v cap qs → FirstBest rank Usable size w cap qs
@@ -101,6 +98,7 @@ module _ (rank : Oriented → ℕ) (Usable : Oriented → Type 0) (size : Orient
 
 -- ---- there is only one
 
+-- two sequences do not each come before the other; choosing shows the same, for its own proofs alone
 not_both : (js ks : List ℕ) → Before js ks → Before ks js → ⊥
 not_both [] ks b c = b
 not_both (j ∷ js) [] b c = b

@@ -2,6 +2,7 @@
 use Rattle.std.proofs.Common.{◌≡◌, ℕ, suc, ◌+◌, ◌≤◌, true, ◌⊎◌, List, [], ◌∷◌, ◌++◌, sym, refl, ap, ◌∙◌, subst, append_assoc, arith}
 use Rattle.std.specs.List.{AllByRecursion}
 use Rattle.std.proofs.lemmas.List.{length-map}
+use Rattle.std.proofs.lemmas.List.Elements.{All-from_recursion}
 use Rattle.std.proofs.ByRecursion.{All-append}
 use Rattle.layout.specs.declared.panel.Panel.{Panel}
 use Rattle.layout.specs.declared.row.Row.{Row}
@@ -86,7 +87,7 @@ module _ (m : Model) where
             → GoesOn (shape m) p earlier (rows_of_strip g n y lo os ++ (lay g (suc n) lo (y + st.across) sts ++ more))
         by [] each some go = absurd (omega arith)
         by (o ∷ os) each some go =
-            strip (record { segment = sym e; strip = sym f; above = tops })
+            strip (record { segment = sym e; strip = sym f; above = All-from_recursion (λ (b : Row). top (panels (shape m)) b ≤ y) (p ∷ earlier) tops })
             (strip_goes n y st.across (lo + o.along) os (lay g (suc n) lo (y + st.across) sts ++ more) each.1 go (row g n y lo o) [] refl refl refl (omega (arith, end_is g n y lo o each.0.0)) (omega (arith, top_is g n y lo o each.0.0, each.0.1), tt))
 
     -- a segment's rows begin with strip 0, at the front of the segment

@@ -1,5 +1,6 @@
 -- What holds of each element of a list, and of each two; sums over a list.
-use Rattle.std.proofs.Common.{◌≡◌, ℕ, zero, suc, ◌+◌, ◌<◌, Bool, true, false, ◌⊎◌, List, [], ◌∷◌, ◌++◌, map, length, get_or, filter, refl, inl, inr, ⊎_elim, arith}
+use Rattle.std.proofs.Common.{◌≡◌, ℕ, zero, suc, ◌+◌, ◌<◌, Bool, true, false, ◌⊎◌, List, [], ◌∷◌, ◌++◌, map, length, get_or, filter, refl, inl, inr, ⊎_elim, All, arith}
+use Rattle.std.proofs.lemmas.List.Elements.{recursion_from_All}
 use Rattle.std.specs.List.{ContainsAt as Has, AllByRecursion}
 use Rattle.std.proofs.ByRecursion.{All-get_or, All-weaker}
 use Rattle.patterns.specs.Numbers.{keep}
@@ -12,7 +13,7 @@ pub all_both : {A : Type 0} (P Q : A → Type 0) (xs : List A) → AllByRecursio
 all_both P Q [] a b = tt
 all_both P Q (x ∷ xs) a b = ((a.0, b.0), all_both P Q xs a.1 b.1)
 
--- R holds of each element and each later one
+-- R holds of each element and each later one: by recursion, since lists in order are built at the front
 abbrev pub Pairs : {A : Type 0} → (A → A → Type 0) → List A → Type 0
 Pairs R [] = Unit {0}
 Pairs R (x ∷ xs) = AllByRecursion (R x) xs × Pairs R xs
@@ -23,8 +24,8 @@ pairs_at R (x ∷ xs) ok i zero d lt h = absurd (omega arith)
 pairs_at R (x ∷ xs) ok zero (suc j) d lt h = All-get_or (R x) xs j d (omega arith) ok.0
 pairs_at R (x ∷ xs) ok (suc i) (suc j) d lt h = pairs_at R xs ok.1 i j d (omega arith) (omega arith)
 
-pub both_at : {A : Type 0} (R : A → A → Type 0) (xs : List A) → AllByRecursion (λ (a : A). AllByRecursion (R a) xs) xs → (i j : ℕ) (d : A) → i < length xs → j < length xs → R (get_or xs i d) (get_or xs j d)
-both_at {A} R xs ok i j d il jl = All-get_or (R (get_or xs i d)) xs j d jl (All-get_or (λ (a : A). AllByRecursion (R a) xs) xs i d il ok)
+pub both_at : {A : Type 0} (R : A → A → Type 0) (xs : List A) → All (λ (a : A). All (R a) xs) xs → (i j : ℕ) (d : A) → i < length xs → j < length xs → R (get_or xs i d) (get_or xs j d)
+both_at R xs ok i j d il jl = ok i d il j d jl
 
 -- ---- sums
 
@@ -38,6 +39,7 @@ sum_join f (x ∷ xs) ys = omega (arith, sum_join f xs ys)
 
 -- ---- membership
 
+-- a is in xs: by recursion, and not by its place, so that a proof goes down the list with it
 pub data In {A : Type 0} (a : A) : List A → Type 0 where
   here : {xs : List A} → In a (a ∷ xs)
   there : {x : A} {xs : List A} → In a xs → In a (x ∷ xs)
@@ -50,6 +52,10 @@ all_in P (x ∷ xs) f = (f x here, all_in P xs (λ a i. f a (there i)))
 pub in_all : {A : Type 0} (P : A → Type 0) {a : A} {xs : List A} → In a xs → AllByRecursion P xs → P a
 in_all P here ok = ok.0
 in_all P (there i) ok = in_all P i ok.1
+
+-- the same of what holds of each by its place
+pub in_every : {A : Type 0} (P : A → Type 0) {a : A} {xs : List A} → In a xs → All P xs → P a
+in_every P {xs = xs} i ok = in_all P i (recursion_from_All P xs ok)
 
 pub in_map : {A B : Type 0} (f : A → B) {a : A} {xs : List A} → In a xs → In (f a) (map f xs)
 in_map f here = here

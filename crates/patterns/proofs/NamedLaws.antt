@@ -1,8 +1,9 @@
 -- The two named rules keep the laws of a cutting rule.
-use Rattle.std.proofs.Common.{◌≡◌, ℕ, ◌+◌, ◌-◌, ◌<◌, ◌≤◌, List, [], ◌∷◌, ◌++◌, sym, ap, ◌∙◌, subst, arith}
+use Rattle.std.proofs.Common.{◌≡◌, ℕ, ◌+◌, ◌-◌, ◌<◌, ◌≤◌, List, [], ◌∷◌, ◌++◌, sym, ap, ◌∙◌, subst, All, arith}
 use Rattle.std.specs.List.{AllByRecursion}
 use Rattle.std.proofs.lemmas.Bool.{ltb-false}
 use Rattle.std.proofs.lemmas.List.{append-nil}
+use Rattle.std.proofs.lemmas.List.Elements.{All-from_recursion, All-nil, All-weaker, recursion_from_All}
 use Rattle.std.proofs.ByRecursion.{All-append}
 use Rattle.layout.specs.declared.row.Row.{Row}
 use Rattle.layout.specs.Pieces.{end}
@@ -50,9 +51,9 @@ module _ (m : Model) (ok : WithinLimits m) where
       let b = two_chosen m ok in
       let all = laid m 0 0 m.length (omega arith) 0 0 (two_staged_segment by_value m).strips b.each (omega (arith, b.within)) in
       record {
-        placed = all_each (λ r x. x.placed) (two_staged_pattern by_value m) all;
+        placed = All-from_recursion (Placed (shape m)) (two_staged_pattern by_value m) (all_each (λ r x. x.placed) (two_staged_pattern by_value m) all);
         order = alone m 0 m.length (two_staged_segment by_value m).strips b.each;
-        one = all_each (λ r x. x.segment) (two_staged_pattern by_value m) all;
+        one = All-from_recursion (λ (r : Row). r.segment ≡ 0) (two_staged_pattern by_value m) (all_each (λ r x. x.segment) (two_staged_pattern by_value m) all);
       }
 
   pub two_staged_worth : worth m (two_staged_pattern by_value m) ≡ most plain (general_strips m.length (numbers m)) m.width
@@ -61,20 +62,21 @@ module _ (m : Model) (ok : WithinLimits m) where
       worth_sum m (two_staged_pattern by_value m) ∙ worth_lay m 0 0 0 0 m.length (two_staged_segment by_value m).strips b.each ∙ b.worth_is
 
 -- rows of segments 0 and 1 are numbered within the limits
-few_numbered : (m : Model) → WithinLimits m → (rows : List Row) → AllByRecursion (Placed (shape m)) rows → InOrder (shape m) rows → AllByRecursion (λ (r : Row). r.segment ≤ 1) rows → AllByRecursion Numbered rows
+few_numbered : (m : Model) → WithinLimits m → (rows : List Row) → All (Placed (shape m)) rows → InOrder (shape m) rows → All (λ (r : Row). r.segment ≤ 1) rows → All Numbered rows
 few_numbered m ok rows placed order two =
-    all_both (λ (r : Row). r.segment ≤ 7) (λ (r : Row). r.strip ≤ 63) rows (all_each (λ r e. omega arith) rows two) (strip_numbers (shape m) ok.plate.0 ok.plate.1 (sizes m ok) rows placed order)
+    All-from_recursion Numbered rows
+    (all_both (λ (r : Row). r.segment ≤ 7) (λ (r : Row). r.strip ≤ 63) rows (all_each (λ r e. omega arith) rows (recursion_from_All (λ (r : Row). r.segment ≤ 1) rows two)) (strip_numbers (shape m) ok.plate.0 ok.plate.1 (sizes m ok) rows (recursion_from_All (Placed (shape m)) rows placed) order))
 
 pub two_staged_laws : RuleLaws TwoStagedSet (two_staged_pattern by_value) 3200 3 0
 two_staged_laws =
     record {
       far = omega arith;
       staged = omega arith;
-      empty = λ m a. record { placed = tt; order = tt; one = tt };
+      empty = λ m a. record { placed = All-nil (Placed (shape m)); order = tt; one = All-nil (λ (r : Row). r.segment ≡ 0) };
       proper = λ m a rows set. record {
         few = two_staged_few (shape m) a.limits.plate.0 a.limits.plate.1 (sizes m a.limits) rows set;
         placed = set.placed;
-        numbered = few_numbered m a.limits rows set.placed set.order (all_each (λ r e. omega arith) rows set.one);
+        numbered = few_numbered m a.limits rows set.placed set.order (All-weaker (λ (r : Row). r.segment ≡ 0) (λ (r : Row). r.segment ≤ 1) (λ r e. omega arith) rows set.one);
         apart = two_staged_apart (shape m) (some_size m a.limits) rows set;
       };
       member = λ m a. two_staged_member m a.limits;
@@ -84,7 +86,9 @@ two_staged_laws =
 -- ---- three-staged
 
 each_two : (R : Row → Row → Type 0) (P : Row → Type 0) (rows : List Row) → ((q r : Row) → P q → P r → R q r) → AllByRecursion P rows → EachTwo R rows
-each_two R P rows f ok = all_in (λ (q : Row). AllByRecursion (R q) rows) rows (λ q i. all_in (R q) rows (λ r j. f q r (in_all P i ok) (in_all P j ok)))
+each_two R P rows f ok =
+    All-from_recursion (λ (q : Row). All (R q) rows) rows
+    (all_in (λ (q : Row). All (R q) rows) rows (λ q i. All-from_recursion (R q) rows (all_in (R q) rows (λ r j. f q r (in_all P i ok) (in_all P j ok)))))
 
 -- a row of segment 0, left of c, or of segment 1, right of c; and the number that its strip is made of
 data Side (s : Shape) (c : ℕ) (lows highs : ℕ → Oriented) (r : Row) : Type 0 where
@@ -119,9 +123,9 @@ module _ (s : Shape) (c : ℕ) (lows highs : ℕ → Oriented) where
   sided : (rows : List Row) → InOrder s rows → AllByRecursion (Side s c lows highs) rows → ThreeStagedSet s rows
   sided rows order ok =
       record {
-        placed = all_each side_placed rows ok;
+        placed = All-from_recursion (Placed s) rows (all_each side_placed rows ok);
         order = order;
-        two = all_each side_two rows ok;
+        two = All-from_recursion (λ (r : Row). r.segment ≤ 1) rows (all_each side_two rows ok);
         beside = each_two (Beside s) (Side s c lows highs) rows side_beside ok;
         alike = each_two Alike (Side s c lows highs) rows side_alike ok;
       }
@@ -194,7 +198,7 @@ three_staged_laws =
     record {
       far = omega arith;
       staged = omega arith;
-      empty = λ m a. record { placed = tt; order = tt; two = tt; beside = tt; alike = tt };
+      empty = λ m a. record { placed = All-nil (Placed (shape m)); order = tt; two = All-nil (λ (r : Row). r.segment ≤ 1); beside = All-nil (λ (q : Row). All (Beside (shape m) q) []); alike = All-nil (λ (q : Row). All (Alike q) []) };
       proper = λ m a rows set. record {
         few = three_staged_few (shape m) a.limits.plate.0 a.limits.plate.1 (sizes m a.limits) rows set;
         placed = set.placed;

@@ -1,6 +1,7 @@
 -- The named patterns in the words of the rules: they are so, and no other list is.
-use Rattle.std.proofs.Common.{◌≡◌, ℕ, ◌-◌, ◌<◌, ◌≤◌, leb, List, [], ◌∷◌, map, replicate, sym, refl, ap, ◌∙◌, subst, inl, inr, mul_comm, le-div_iff_mul-le, arith}
-use Rattle.std.specs.List.{AllByRecursion}
+use Rattle.std.proofs.Common.{◌≡◌, ℕ, ◌-◌, ◌<◌, ◌≤◌, leb, List, [], ◌∷◌, map, replicate, sym, refl, ap, ◌∙◌, subst, inl, inr, mul_comm, le-div_iff_mul-le, All, arith}
+use Rattle.std.proofs.lemmas.Simd.{map-map}
+use Rattle.std.proofs.lemmas.List.Elements.{All-head, recursion_from_All}
 use Rattle.std.proofs.lemmas.Bool.{ltb-true, ltb-false, cases_order}
 use Rattle.layout.specs.declared.row.Row.{Row}
 use Rattle.layout.specs.Tasks.{Model, WithinLimits}
@@ -21,7 +22,7 @@ use Rattle.patterns.proofs.Candidates.{all_sound, sizeable, all_preferred, in_pr
 use Rattle.patterns.proofs.Worths.{all_sizeable, two_fine}
 use Rattle.patterns.proofs.Chosen.{taken_at, sum_replicate, general_ready}
 use Rattle.patterns.proofs.Dividing.{lowest_best}
-use Rattle.patterns.proofs.Firsts.{map_twice, map_same, at_map, known_places, first_best, first_best_by, first_best_unique}
+use Rattle.patterns.proofs.Firsts.{map_same, at_map, known_places, first_best, first_best_by, first_best_unique}
 
 -- strips are preferred in the order of their rank
 preferred_ranked : (os : List Oriented) → Pairs Lower os → Pairs (λ (a b : Oriented). strip_rank a < strip_rank b) (preferred os)
@@ -62,7 +63,7 @@ module _ (m : Model) (ok : WithinLimits m) where
   first_strips : First plain (map (λ (q : Oriented). by_across (general q)) (preferred (numbers m))) m.width (first plain (general_strips m.length (numbers m)) m.width).order
   first_strips =
       let cands = general_strips m.length (numbers m) in
-      subst (λ cs. First plain cs m.width (first plain cands m.width).order) (map_twice by_across general (preferred (numbers m))) (first_is_first plain_laws cands (all_sound cands (two_fine m ok)) m.width)
+      subst (λ cs. First plain cs m.width (first plain cands m.width).order) (map-map by_across general (preferred (numbers m))) (first_is_first plain_laws cands (all_sound cands (two_fine m ok)) m.width)
 
   strips_chosen : FirstBest strip_rank (Counted m) (λ (q : Oriented). q.across) (λ (q : Oriented). pieces_worth (strip_pieces_of q)) m.width chosen_strips
   strips_chosen =
@@ -75,7 +76,7 @@ module _ (m : Model) (ok : WithinLimits m) where
   two_laid =
       ap (lay 0 0 0 0)
       (at_map general no_piece (no_strip plain) (preferred (numbers m)) (first plain (general_strips m.length (numbers m)) m.width).order (known_places (λ (q : Oriented). by_across (general q)) (preferred (numbers m)) (first plain (general_strips m.length (numbers m)) m.width).order first_strips.feasible.known)
-      ∙ map_same general (λ (q : Oriented). strip_with q (strip_pieces_of q)) chosen_strips (all_each (λ q c. ap (λ w. record { across = q.across; pieces = strip_pieces_of q; worth = w }) (general_worth q c)) chosen_strips strips_chosen.fits.usable))
+      ∙ map_same general (λ (q : Oriented). strip_with q (strip_pieces_of q)) chosen_strips (all_each (λ q c. ap (λ w. record { across = q.across; pieces = strip_pieces_of q; worth = w }) (general_worth q c)) chosen_strips (recursion_from_All (Counted m) chosen_strips strips_chosen.fits.usable)))
 
   pub two_pattern : TwoStagedPattern m (two_staged_pattern by_value m)
   two_pattern = record { pieces = strip_pieces_of; each = λ q c. strip_of q; strips = chosen_strips; chosen = strips_chosen; laid = two_laid }
@@ -85,7 +86,7 @@ module _ (m : Model) (ok : WithinLimits m) where
   two_unique rows t =
       t.laid
       ∙ ap (lay 0 0 0 0)
-      (map_same (λ (q : Oriented). strip_with q (t.pieces q)) (λ (q : Oriented). strip_with q (strip_pieces_of q)) t.strips (all_each (λ q c. ap (strip_with q) (same q c)) t.strips t.chosen.fits.usable)
+      (map_same (λ (q : Oriented). strip_with q (t.pieces q)) (λ (q : Oriented). strip_with q (strip_pieces_of q)) t.strips (all_each (λ q c. ap (strip_with q) (same q c)) t.strips (recursion_from_All (Counted m) t.strips t.chosen.fits.usable))
       ∙ ap (map (λ (q : Oriented). strip_with q (strip_pieces_of q))) strips_same)
       ∙ sym two_laid
     where
@@ -123,7 +124,7 @@ module _ (m : Model) (ok : WithinLimits m) where
   first_segment : (c : ℕ) → First plain (map (λ (q : Oriented). by_across (uniform_strip by_value c q)) (usable_in c)) m.width (first plain (uniform_strips c (numbers m)) m.width).order
   first_segment c =
       let cands = uniform_strips c (numbers m) in
-      subst (λ cs. First plain cs m.width (first plain cands m.width).order) (map_twice by_across (uniform_strip by_value c) (usable_in c)) (first_is_first plain_laws cands (all_sound cands (uniform_fine c (numbers m) (all_sizeable m ok))) m.width)
+      subst (λ cs. First plain cs m.width (first plain cands m.width).order) (map-map by_across (uniform_strip by_value c) (usable_in c)) (first_is_first plain_laws cands (all_sound cands (uniform_fine c (numbers m) (all_sizeable m ok))) m.width)
 
   pub segment_of : (c : ℕ) → SegmentOf m c (segment_numbers c)
   segment_of c =
@@ -145,7 +146,7 @@ module _ (m : Model) (ok : WithinLimits m) where
       let cands = uniform_strips c (numbers m) in
       let ks = (first plain cands m.width).order in
       let t = taken_at (λ (q : Oriented). by_across (uniform_strip by_value c q)) no_piece (λ (q : Oriented). Unit {0}) (usable_in c) ks (all_in (λ (q : Oriented). Unit {0}) (usable_in c) (λ q i. tt)) (first_segment c).feasible.known in
-      worths (segment_numbers c) ∙ t.worth_is ∙ ap (λ cs. total_worth plain cs ks) (sym (map_twice by_across (uniform_strip by_value c) (usable_in c))) ∙ sym (most_is_total plain_laws cands (all_sound cands (uniform_fine c (numbers m) (all_sizeable m ok))) m.width)
+      worths (segment_numbers c) ∙ t.worth_is ∙ ap (λ cs. total_worth plain cs ks) (sym (map-map by_across (uniform_strip by_value c) (usable_in c))) ∙ sym (most_is_total plain_laws cands (all_sound cands (uniform_fine c (numbers m) (all_sizeable m ok))) m.width)
     where
       worths : (qs : List Oriented) → sum (strip_worth c) qs ≡ sum (λ (q : Oriented). (uniform_strip by_value c q).worth) qs
       worths [] = refl
@@ -201,9 +202,9 @@ module _ (m : Model) (ok : WithinLimits m) where
 
 -- ---- where nothing counts
 
-none_usable : (P : Oriented → Type 0) → ((q : Oriented) → P q → ⊥) → (qs : List Oriented) → AllByRecursion P qs → qs ≡ []
+none_usable : (P : Oriented → Type 0) → ((q : Oriented) → P q → ⊥) → (qs : List Oriented) → All P qs → qs ≡ []
 none_usable P never [] ok = refl
-none_usable P never (q ∷ qs) ok = absurd (never q ok.0)
+none_usable P never (q ∷ qs) ok = absurd (never q (All-head P q qs ok))
 
 pub empty_without_numbers : EmptyWithoutNumbers
 empty_without_numbers m ok none =

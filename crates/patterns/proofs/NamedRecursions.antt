@@ -1,8 +1,10 @@
 -- The published recursions give the worth of the named patterns.
 use Rattle.std.proofs.Common.{◌≡◌, ℕ, zero, suc, ◌-◌, ◌*◌, ◌/◌, ◌<◌, ◌≤◌, ◌⊎◌, List, [], ◌∷◌, map, length, get_or, take, sym, refl, ap, ◌∙◌, subst, inl, inr, ⊎_elim, mul-zero, arith}
+use Rattle.std.proofs.lemmas.Simd.{map-map}
+use Rattle.std.proofs.lemmas.List.Elements.{All-from_recursion, recursion_from_All}
 use native.Mathlib.Decide.{dec_le, dec_lt}
 use Rattle.std.specs.List.{AllByRecursion}
-use Rattle.std.proofs.ByRecursion.{All-from_get_or, All-get_or, All-map}
+use Rattle.std.proofs.ByRecursion.{All-from_get_or, All-map}
 use Rattle.std.proofs.lemmas.List.{length-take-le, get_or-take}
 use Rattle.std.proofs.lemmas.Bool.{ltb-true, ltb-false}
 use Rattle.layout.specs.Tasks.{Model, WithinLimits, worth}
@@ -24,7 +26,6 @@ use Rattle.patterns.proofs.Numbered.{numbers_counted, counted_in}
 use Rattle.patterns.proofs.Candidates.{Fine, all_sound, sizeable, all_preferred, in_preferred, in_no_wider, in_no_longer, all_no_wider, all_no_longer, strip_pieces, general_strips, uniform_strips, pieces_fine, uniform_fine}
 use Rattle.patterns.proofs.Worths.{all_sizeable, two_fine}
 use Rattle.patterns.proofs.Dividing.{lowest_best}
-use Rattle.patterns.proofs.Firsts.{map_twice}
 use Rattle.patterns.proofs.NamedLaws.{two_staged_worth, three_staged_worth}
 use Rattle.patterns.proofs.NamedPatterns.{strip_unique, general_worth, no_longer_than, uniform_worth, segment_unique, segment_worth, place_same}
 use Rattle.patterns.proofs.Rising.{Rise, risen}
@@ -57,7 +58,7 @@ module _ (m : Model) (ok : WithinLimits m) where
   as_strip q = by_across (general_strip by_value m.length (numbers m) q)
 
   fused : general_strips m.length (numbers m) ≡ map as_strip (preferred (numbers m))
-  fused = map_twice by_across (general_strip by_value m.length (numbers m)) (preferred (numbers m))
+  fused = map-map by_across (general_strip by_value m.length (numbers m)) (preferred (numbers m))
 
   preferred_counted : (q : Oriented) → In q (preferred (numbers m)) → Counted m q
   preferred_counted q i = in_all (Counted m) i (all_preferred (Counted m) (numbers m) (numbers_counted m))
@@ -105,10 +106,10 @@ module _ (m : Model) (ok : WithinLimits m) where
 
   module _ (qs : List Oriented) (order : ByAcross m qs) where
     place_counted : (k : ℕ) → k < length qs → Counted m (get_or qs k no_piece)
-    place_counted k h = All-get_or (Counted m) qs k no_piece h order.only
+    place_counted k h = order.only k no_piece h
 
     all_fine : AllByRecursion Fine (map (by_along by_value) qs)
-    all_fine = All-map Fine (by_along by_value) qs (all_each (λ q c. let z = sizeable m ok q c in (omega (arith, z.along_least), z.value_least)) qs order.only)
+    all_fine = All-map Fine (by_along by_value) qs (all_each (λ q c. let z = sizeable m ok q c in (omega (arith, z.along_least), z.value_least)) qs (recursion_from_All (Counted m) qs order.only))
 
     -- the numbers up to a place are no wider than the one that stands there
     front_in : (k : ℕ) → k < length qs → (q : Oriented) → (get_or qs k no_piece).across ≤ q.across → (x : Oriented) → In x (take (suc k) qs) → In x (no_wider q.across (numbers m))
@@ -227,7 +228,7 @@ module _ (m : Model) (ok : WithinLimits m) where
       let r = risen (numbers m) in (
         r.list,
         record {
-          only = all_in (Counted m) r.list (λ q i. in_all (Counted m) (r.only q i) (numbers_counted m));
+          only = All-from_recursion (Counted m) r.list (all_in (Counted m) r.list (λ q i. in_all (Counted m) (r.only q i) (numbers_counted m)));
           every = λ q c. in_has (r.every q (counted_in m q c));
           rising = λ i j lt h. pairs_at Rise r.list r.rising i j no_piece lt h;
         },
@@ -260,7 +261,7 @@ module _ (m : Model) (ok : WithinLimits m) where
     as_uniform q = by_across (uniform_strip by_value c q)
 
     fused_uniform : uniform_strips c (numbers m) ≡ map as_uniform (no_longer c (preferred (numbers m)))
-    fused_uniform = map_twice by_across (uniform_strip by_value c) (no_longer c (preferred (numbers m)))
+    fused_uniform = map-map by_across (uniform_strip by_value c) (no_longer c (preferred (numbers m)))
 
     uniform_each : (q : Oriented) → In q (no_longer c (preferred (numbers m))) → UniformOffer m c q.across (uniform_strip by_value c q).worth
     uniform_each q i = (q, (in_all (λ (o : Oriented). Counted m o × (o.along ≤ c)) i (all_no_longer (Counted m) c (preferred (numbers m)) (all_preferred (Counted m) (numbers m) (numbers_counted m)))).0, refl, uniform_worth m ok c q)

@@ -1,5 +1,6 @@
 -- How each two rows of a list in order stand to one another.
 use Rattle.std.proofs.Common.{◌≡◌, ℕ, ◌<◌, ◌≤◌, List, [], ◌∷◌, refl, arith}
+use Rattle.std.proofs.lemmas.List.Elements.{All-head, recursion_from_All}
 use Rattle.std.specs.List.{AllByRecursion}
 use Rattle.layout.specs.declared.row.Row.{Row}
 use Rattle.layout.specs.Pieces.{end, top}
@@ -28,7 +29,7 @@ module _ (s : Shape) where
   from_below a p earlier (r ∷ rows) e lt low (same t g) =
       (below (omega (arith, t.segment)) (omega (arith, t.strip)) (omega (arith, t.level)), from_below a r (p ∷ earlier) rows (omega (arith, t.segment)) (omega (arith, t.strip)) (omega (arith, t.level)) g)
   from_below a p earlier (r ∷ rows) e lt low (strip t g) =
-      (below (omega (arith, t.segment)) (omega (arith, t.strip)) (omega (arith, t.above.0)), from_below a r [] rows (omega (arith, t.segment)) (omega (arith, t.strip)) (omega (arith, t.above.0)) g)
+      (below (omega (arith, t.segment)) (omega (arith, t.strip)) (omega (arith, All-head (λ (q : Row). top (panels s) q ≤ r.y) p earlier t.above)), from_below a r [] rows (omega (arith, t.segment)) (omega (arith, t.strip)) (omega (arith, All-head (λ (q : Row). top (panels s) q ≤ r.y) p earlier t.above)) g)
   from_below a p earlier (r ∷ rows) e lt low (segment t g) = (aside (omega (arith, t.segment)), from_aside a r [] rows (omega (arith, t.segment)) g)
 
   -- a row of the strip at hand: what is above every piece of the strip is above it
@@ -39,7 +40,7 @@ module _ (s : Shape) where
     from_strip a r (p ∷ earlier) rows (omega (arith, t.segment)) (omega (arith, t.strip)) (omega (arith, t.level)) (omega (arith, t.beyond)) (λ y all. tops y all.1) g,
   )
   from_strip a p earlier (r ∷ rows) e f h x tops (strip t g) =
-      (below (omega (arith, t.segment)) (omega (arith, t.strip)) (tops r.y t.above), from_below a r [] rows (omega (arith, t.segment)) (omega (arith, t.strip)) (tops r.y t.above) g)
+      (below (omega (arith, t.segment)) (omega (arith, t.strip)) (tops r.y (recursion_from_All (λ (q : Row). top (panels s) q ≤ r.y) (p ∷ earlier) t.above)), from_below a r [] rows (omega (arith, t.segment)) (omega (arith, t.strip)) (tops r.y (recursion_from_All (λ (q : Row). top (panels s) q ≤ r.y) (p ∷ earlier) t.above)) g)
   from_strip a p earlier (r ∷ rows) e f h x tops (segment t g) = (aside (omega (arith, t.segment)), from_aside a r [] rows (omega (arith, t.segment)) g)
 
   own : (p : Row) (earlier rows : List Row) → GoesOn s p earlier rows → AllByRecursion (Stand s p) rows

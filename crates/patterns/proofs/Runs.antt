@@ -1,5 +1,6 @@
 -- A list in order, strip by strip: how much of anything that adds up it can hold.
 use Rattle.std.proofs.Common.{◌≡◌, ℕ, ◌+◌, ◌≤◌, List, [], ◌∷◌, sym, refl, ap, ◌∙◌, arith}
+use Rattle.std.proofs.lemmas.List.Elements.{recursion_from_All}
 use Rattle.std.specs.List.{AllByRecursion}
 use Rattle.layout.specs.declared.row.Row.{Row}
 use Rattle.layout.specs.Pieces.{end, top}
@@ -42,7 +43,7 @@ module _ (s : Shape) (g lo : ℕ) (Each : Row → Type 0) (placed : (r : Row) �
   segment_bound p earlier (r ∷ rows) (strip t go) run e ok each =
       omega (
         arith,
-        step p earlier run e ok r.y (omega (arith, (placed r each.0).inside_across)) t.above,
+        step p earlier run e ok r.y (omega (arith, (placed r each.0).inside_across)) (recursion_from_All (λ (q : Row). top (panels s) q ≤ r.y) (p ∷ earlier) t.above),
         segment_bound r [] rows go (run_one (placed r each.0) (left r each.0 (t.segment ∙ e))) (t.segment ∙ e) (each.0, tt) each.1,
       )
   segment_bound p earlier (r ∷ rows) (segment t go) run e ok each =

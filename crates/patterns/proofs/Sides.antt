@@ -1,5 +1,6 @@
 -- Where the two segments of a three-staged pattern are divided: at the greatest end of a piece of segment 0.
-use Rattle.std.proofs.Common.{◌≡◌, ℕ, ◌≤◌, max, List, [], ◌∷◌, arith}
+use Rattle.std.proofs.Common.{◌≡◌, ℕ, ◌≤◌, max, List, [], ◌∷◌, All, arith}
+use Rattle.std.proofs.lemmas.List.Elements.{recursion_from_All}
 use native.Mathlib.Decide.{ℕ_discrete}
 use Rattle.std.specs.List.{AllByRecursion}
 use Rattle.layout.specs.declared.row.Row.{Row}
@@ -7,7 +8,7 @@ use Rattle.layout.specs.Pieces.{end}
 use Rattle.layout.specs.Tasks.{Shape, panels}
 use Rattle.rules.specs.Rules.{Placed}
 use Rattle.patterns.specs.Sets.{Beside, Alike, ThreeStagedSet}
-use Rattle.patterns.proofs.Lists.{all_each, In, in_all, all_in}
+use Rattle.patterns.proofs.Lists.{all_each, In, in_all, in_every, all_in}
 
 -- the least number that no piece of segment 0 ends beyond
 record Division (s : Shape) (rows : List Row) : Type 0 where
@@ -39,16 +40,16 @@ pub sides : (s : Shape) (rows : List Row) → ThreeStagedSet s rows → (c : ℕ
 sides s rows set =
     let d = divide s rows in (
       d.place,
-      d.least s.length (all_each (λ r p _. p.inside_along) rows set.placed),
+      d.least s.length (all_each (λ r p _. p.inside_along) rows (recursion_from_All (Placed s) rows set.placed)),
       all_in (Sided s d.place rows) rows (λ r i. record {
-        placed = in_all (Placed s) i set.placed;
+        placed = in_every (Placed s) i set.placed;
         among = i;
-        two = in_all (λ (q : Row). q.segment ≤ 1) i set.two;
+        two = in_every (λ (q : Row). q.segment ≤ 1) i set.two;
         left = in_all (λ (q : Row). q.segment ≡ 0 → end (panels s) q ≤ d.place) i d.past;
-        right = λ e. d.least r.x (all_in (λ (q : Row). q.segment ≡ 0 → end (panels s) q ≤ r.x) rows (λ q j z. in_all (Beside s q) i (in_all (λ (b : Row). AllByRecursion (Beside s b) rows) j set.beside) z e));
+        right = λ e. d.least r.x (all_in (λ (q : Row). q.segment ≡ 0 → end (panels s) q ≤ r.x) rows (λ q j z. in_every (Beside s q) i (in_every (λ (b : Row). All (Beside s b) rows) j set.beside) z e));
       }),
     )
 
 -- two rows of a strip are alike
 pub alike : (s : Shape) (rows : List Row) → ThreeStagedSet s rows → (q r : Row) → In q rows → In r rows → Alike q r
-alike s rows set q r i j = in_all (Alike q) j (in_all (λ (b : Row). AllByRecursion (Alike b) rows) i set.alike)
+alike s rows set q r i j = in_every (Alike q) j (in_every (λ (b : Row). All (Alike b) rows) i set.alike)

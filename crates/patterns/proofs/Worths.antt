@@ -1,5 +1,6 @@
 -- No pattern of either set is worth more than the best choice of strips.
 use Rattle.std.proofs.Common.{◌≡◌, ℕ, suc, ◌+◌, ◌-◌, ◌*◌, ◌/◌, ◌≤◌, List, [], ◌∷◌, sym, refl, ap, mul-le-mul_right, suc-mul, le-div_iff_mul-le, zero-mul, arith}
+use Rattle.std.proofs.lemmas.List.Elements.{recursion_from_All}
 use native.Mathlib.Decide.{dec_le}
 use Rattle.std.specs.List.{AllByRecursion}
 use Rattle.layout.specs.declared.row.Row.{Row}
@@ -87,10 +88,12 @@ module _ (m : Model) (ok : WithinLimits m) where
   pub two_staged_most : (rows : List Row) → TwoStagedSet (shape m) rows → worth m rows ≤ most plain (general_strips m.length (numbers m)) m.width
   two_staged_most [] set = omega arith
   two_staged_most (r ∷ rows) set =
+      let stood = recursion_from_All (Placed (shape m)) (r ∷ rows) set.placed in
+      let one = recursion_from_All (λ (q : Row). q.segment ≡ 0) (r ∷ rows) set.one in
       let b = segment_bound (shape m) 0 0 (λ (q : Row). Placed (shape m) q × (q.segment ≡ 0)) (λ q z. z.0) (λ q z e. omega arith)
       (value_of m) (λ y. most plain (general_strips m.length (numbers m)) (m.width - y)) 0
       two_step (λ q b rest e n g all. absurd (omega (arith, n.segment, all.0.1)))
-      r [] rows set.order.next (run_one set.placed.0 (omega arith)) set.one.0 ((set.placed.0, set.one.0), tt) (all_both (Placed (shape m)) (λ (q : Row). q.segment ≡ 0) rows set.placed.1 set.one.1) in
+      r [] rows set.order.next (run_one stood.0 (omega arith)) one.0 ((stood.0, one.0), tt) (all_both (Placed (shape m)) (λ (q : Row). q.segment ≡ 0) rows stood.1 one.1) in
       omega (arith, b, worth_sum m (r ∷ rows), grows (general_strips m.length (numbers m)) two_fine (m.width - r.y) m.width (omega arith))
 
   -- ---- three-staged

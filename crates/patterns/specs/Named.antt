@@ -1,5 +1,5 @@
 -- The patterns that the two rules name, for any worth.
-use Rattle.std.specs.Prelude.{ℕ, zero, suc, ◌-◌, cond, List, [], ◌∷◌, ◌++◌, map}
+use Rattle.std.specs.Prelude.{ℕ, zero, suc, ◌-◌, if◌then◌else◌, List, [], ◌∷◌, ◌++◌, map}
 use Rattle.layout.specs.declared.row.Row.{Row}
 use Rattle.layout.specs.Tasks.{Model}
 use Rattle.patterns.specs.declared.Oriented.{Oriented}
@@ -43,7 +43,7 @@ division p m zero = divided p m 0
 division p m (suc c) =
     let before = division p m c in
     let here = divided p m (suc c) in
-    cond (p.scale.less before.worth here.worth) here before
+    if p.scale.less before.worth here.worth then here else before
 
 -- a segment from 0 on and a segment from c on; the right one has number 0 where the left has no strips
 abbrev pub side_by_side : {W : Type 0} → ℕ → List (Strip W) → List (Strip W) → List Row

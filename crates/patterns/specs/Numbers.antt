@@ -1,5 +1,5 @@
 -- The oriented numbers of a task that count, the lowest first. An oriented number is written as the kind in its position, with sizes and value.
-use Rattle.std.specs.Prelude.{ℕ, suc, ◌+◌, ◌*◌, Bool, true, cond, ◌&&◌, List, [], ◌∷◌, nat_le}
+use Rattle.std.specs.Prelude.{ℕ, suc, ◌+◌, ◌*◌, Bool, true, if◌then◌else◌, ◌&&◌, List, [], ◌∷◌, nat_le}
 use Rattle.layout.specs.declared.panel.Kind.{Kind}
 use Rattle.layout.specs.Pieces.{along, across}
 use Rattle.layout.specs.Tasks.{Model}
@@ -27,7 +27,7 @@ counts l w k allowed o = k.wanted && (allowed && inside l w o)
 
 -- a is kept in front of the rest where the test passes
 abbrev pub keep : {A : Type 0} → Bool → A → List A → List A
-keep test a rest = cond test (a ∷ rest) rest
+keep test a rest = if test then a ∷ rest else rest
 
 -- those that count, of the kinds from number n on: each kind as it is, then turned
 abbrev pub numbers_from : ℕ → ℕ → ℕ → List Kind → List Oriented

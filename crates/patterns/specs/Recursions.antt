@@ -1,6 +1,6 @@
 -- The published recursions for the worth of the named patterns, in whole numbers. The number of pieces of a kind is unlimited in them.
-use Rattle.std.specs.Prelude.{◌≡◌, ℕ, suc, ◌+◌, ◌-◌, ◌<◌, ◌≤◌, ◌⊎◌, List, length, slice_index_or}
-use Rattle.std.specs.List.{ContainsAt as Has, AllByRecursion}
+use Rattle.std.specs.Prelude.{◌≡◌, ℕ, suc, ◌+◌, ◌-◌, ◌<◌, ◌≤◌, ◌⊎◌, List, length, slice_index_or, All}
+use Rattle.std.specs.List.{ContainsAt as Has}
 use Rattle.layout.specs.Tasks.{Model, WithinLimits, worth}
 use Rattle.patterns.specs.declared.Oriented.{Oriented}
 use Rattle.patterns.specs.Counting.{Counted}
@@ -31,7 +31,7 @@ pub record Admitting (qs : List Oriented) (f : ℕ → ℕ → ℕ) : Type 0 whe
 
 -- the numbers that count, in an order by across size
 pub record ByAcross (m : Model) (qs : List Oriented) : Type 0 where
-  pub only : AllByRecursion (Counted m) qs
+  pub only : All (Counted m) qs
   pub every : (q : Oriented) → Counted m q → Has qs q
   pub rising : (i j : ℕ) → i < j → j < length qs → (slice_index_or qs i no_piece).across ≤ (slice_index_or qs j no_piece).across
 

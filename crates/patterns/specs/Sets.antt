@@ -1,6 +1,5 @@
 -- The two named sets of patterns: two-staged general and three-staged homogenous. Gaps are allowed everywhere.
-use Rattle.std.specs.Prelude.{◌≡◌, suc, ◌≤◌, List, [], ◌∷◌}
-use Rattle.std.specs.List.{AllByRecursion}
+use Rattle.std.specs.Prelude.{◌≡◌, suc, ◌≤◌, List, [], ◌∷◌, All}
 use Rattle.layout.specs.declared.row.Row.{Row}
 use Rattle.layout.specs.Pieces.{end, top}
 use Rattle.layout.specs.Tasks.{Shape, panels}
@@ -19,7 +18,7 @@ pub record SameStrip (s : Shape) (p r : Row) : Type 0 where
 pub record NextStrip (s : Shape) (p : Row) (earlier : List Row) (r : Row) : Type 0 where
   pub segment : r.segment ≡ p.segment
   pub strip : r.strip ≡ suc p.strip
-  pub above : AllByRecursion (λ (q : Row). top (panels s) q ≤ r.y) (p ∷ earlier)
+  pub above : All (λ (q : Row). top (panels s) q ≤ r.y) (p ∷ earlier)
 
 -- the row r begins the next segment, with strip 0
 pub record NextSegment (p r : Row) : Type 0 where
@@ -49,15 +48,15 @@ InOrder s (r ∷ rows) = Starts s r rows
 
 -- rows that are placed and in order, with only segment 0
 pub record TwoStagedSet (s : Shape) (rows : List Row) : Type 0 where
-  pub placed : AllByRecursion (Placed s) rows
+  pub placed : All (Placed s) rows
   pub order : InOrder s rows
-  pub one : AllByRecursion (λ (r : Row). r.segment ≡ 0) rows
+  pub one : All (λ (r : Row). r.segment ≡ 0) rows
 
 -- ---- three-staged homogenous
 
 -- R holds of each two rows
 abbrev pub EachTwo : (Row → Row → Type 0) → List Row → Type 0
-EachTwo R rows = AllByRecursion (λ (q : Row). AllByRecursion (R q) rows) rows
+EachTwo R rows = All (λ (q : Row). All (R q) rows) rows
 
 -- a piece of segment 1 does not begin before the end of a piece of segment 0
 abbrev pub Beside : Shape → Row → Row → Type 0
@@ -69,8 +68,8 @@ Alike q r = q.segment ≡ r.segment → q.strip ≡ r.strip → (q.kind ≡ r.ki
 
 -- rows that are placed and in order, with no segment above 1, segment 1 beyond segment 0, and strips of one kind and turn
 pub record ThreeStagedSet (s : Shape) (rows : List Row) : Type 0 where
-  pub placed : AllByRecursion (Placed s) rows
+  pub placed : All (Placed s) rows
   pub order : InOrder s rows
-  pub two : AllByRecursion (λ (r : Row). r.segment ≤ 1) rows
+  pub two : All (λ (r : Row). r.segment ≤ 1) rows
   pub beside : EachTwo (Beside s) rows
   pub alike : EachTwo Alike rows

@@ -4,7 +4,9 @@ use Rattle.engines.specs.Writing.{sum_along}
 use Rattle.engines.proofs.laying.lay_pieces.Given as goal
 
 -- what is written, and what is still to be written, is the whole strip; and it fits
-abbrev pub invariant-loop-o : goal.invariant-loop-o
-invariant-loop-o l =
-    (l.end ≡ l.start + l.o-index) × (l.x + sum_along (drop l.o-index l.pieces) ≤ 3200)
-    × (take l.end l.rows ++ rows_of_strip l.corner.segment l.corner.strip l.corner.y l.x (drop l.o-index l.pieces) ≡ take l.start l.initial.rows ++ rows_of_strip l.corner.segment l.corner.strip l.corner.y l.corner.x l.pieces)
+abbrev pub invariant-loop-i : goal.invariant-loop-i
+invariant-loop-i l =
+    record {
+      fits : l.x + sum_along (drop l.i l.pieces) ≤ 3200;
+      whole : take l.i l.rows ++ rows_of_strip l.corner.segment l.corner.strip l.corner.y l.x (drop l.i l.pieces) ≡ rows_of_strip l.corner.segment l.corner.strip l.corner.y l.corner.x l.pieces;
+    }

@@ -1,68 +1,52 @@
-use Rattle.std.proofs.Common.{◌≡◌, ◌+◌, ◌++◌, length, get_or, take, drop, ap, ◌∙◌, arith, rules}
-use Rattle.std.proofs.ByRecursion.{All-get_or}
-use Rattle.patterns.specs.Counting.{Counts}
+use Rattle.std.proofs.Common.{◌≡◌, ◌+◌, ◌-◌, length, take, drop, sym, ap, ◌∙◌, arith}
+use Rattle.std.proofs.lemmas.List.{at_drop_more, length-take-le, length-drop}
 use Rattle.patterns.specs.Numbers.{no_piece}
+use Rattle.patterns.specs.Strips.{rows_of_strip}
 use Rattle.engines.specs.declared.segment.Corner.{Corner}
-use Rattle.engines.specs.Fillings.{strip_in}
-use Rattle.engines.specs.Writing.{first_corner, corner_above, strip_rows}
-use Rattle.engines.proofs.Rows.{length_strip, known_more, across_more, strip_length, strip_more, strip_last}
+use Rattle.engines.specs.Fillings.{strip_of}
+use Rattle.engines.specs.Writing.{sum_along, sum_across, strip_rows}
+use Rattle.engines.proofs.Chosen.{pieces_along}
+use Rattle.engines.proofs.Rows.{next, next_rows, strip_length, strip_more}
 use Rattle.engines.proofs.laying.lay_strips.Goals as goal
 
-pub offset_bounds-numbers-k : goal.offset_bounds-numbers-k
-offset_bounds-numbers-k c =
-    let known = known_more c.args.segment c.args.numbers.now c.args.order.now c.loop-k.k-index c.loop-k-test.true c.loop-k.invariant.3 in
-    search rules
+pub lay_pieces-requires-clause-along : goal.lay_pieces-requires-clause-along
+lay_pieces-requires-clause-along g c =
+    let l = c.args.numbers.now in
+    let q = next g.F.Filling.filled l.length l.list.items c.args.chosen.now c.loop-q.q-index c.loop-q-test.true c.loop-q.corner in
+    omega (arith, ap sum_along (c.deref.ensures.0 ∙ c.pieces-pieces.ensures), pieces_along l.length l.width l.list.items l.stock g.F.Filling.filled q, c.requires.along, c.loop-q.invariant.along)
 
-pub bounds-numbers-k : goal.bounds-numbers-k
-bounds-numbers-k c = (known_more c.args.segment c.args.numbers.now c.args.order.now c.loop-k.k-index c.loop-k-test.true c.loop-k.invariant.3).0
+pub lay_pieces-requires-clause-room : goal.lay_pieces-requires-clause-room
+lay_pieces-requires-clause-room g c =
+    let l = c.args.numbers.now in
+    let rows = c.loop-q.rows in
+    let end = c.loop-q.end in
+    let longer = strip_length g.F.Filling.filled l.length l.list.items c.args.chosen.now c.loop-q.q-index c.loop-q-test.true c.loop-q.corner in
+    let many = ap length (c.deref.ensures.0 ∙ c.pieces-pieces.ensures) in
+    omega (arith, many, longer, c.loop-q.invariant.room, c.requires.room, c.loop-q.auto.rows, length-take-le (length rows - end) (drop end rows) (omega (arith, length-drop end rows)), length-drop end rows)
 
-pub lay_strip-end-requires : goal.lay_strip-end-requires
-lay_strip-end-requires c =
-    let s = c.args.segment in
-    let numbers = c.args.numbers.now in
-    let order = c.args.order.now in
-    let i = c.loop-k.k-index in
-    let known = (known_more s numbers order i c.loop-k-test.true c.loop-k.invariant.3).0 in
+pub loop-q-preserved : goal.loop-q-preserved
+loop-q-preserved g c =
+    let f = g.F.Filling.filled in
+    let l = c.args.numbers.now.length in
+    let os = c.args.numbers.now.list.items in
+    let chosen = c.args.chosen.now in
+    let i = c.loop-q.q-index in
+    let known = c.loop-q-test.true in
+    let k = c.loop-q.corner in
+    let q = next f l os chosen i known k in
+    let pieces = (strip_of f l os q).pieces in
+    let many : c.len-end.result ≡ length pieces = c.len-end.ensures.value ∙ ap length c.pieces-pieces.ensures in
+    let slice = c.deref.ensures.0 ∙ c.pieces-pieces.ensures in
+    let written : take c.len-end.result c.lay_pieces.new.rows ≡ next_rows f l os chosen i known k =
+    ap (λ n. take n c.lay_pieces.new.rows) (many ∙ sym (ap length slice)) ∙ c.lay_pieces.ensures.front ∙ ap (rows_of_strip k.segment k.strip k.y k.x) slice in
+    let rest = at_drop_more sum_across chosen i no_piece known in
+    let above = c.above-corner.ensures in
+    let longer = strip_length f l os chosen i known k in
+    let left = ap (λ (z : Corner). length (strip_rows f z l os (drop (i + 1) chosen))) above in
     record {
-      stock = c.requires.stock;
-      number = All-get_or (Counts s.length s.width) numbers (get_or order i 0) no_piece known c.requires.stock.each;
-      along = omega (arith, c.requires.along, c.loop-k.invariant.1);
-      table = omega (arith, c.requires.table, c.loop-k.auto.table);
-      room = omega (arith, c.requires.room, c.loop-k.auto.rows, c.loop-k.invariant.4, strip_length s numbers order i c.loop-k-test.true c.loop-k.corner);
+      strips = omega (arith, c.loop-q.invariant.strips, ap (λ (z : Corner). z.strip) above);
+      along = ap (λ (z : Corner). z.x) above ∙ c.loop-q.invariant.along;
+      across = omega (arith, c.loop-q.invariant.across, rest, ap (λ (z : Corner). z.y) above);
+      room = omega (arith, c.loop-q.invariant.room, many, longer, left);
+      whole = rw above (strip_more f l os chosen i known k c.loop-q.end c.len-end.result c.loop-q.rows c.lay_pieces.new.rows _ _ (omega (arith, c.loop-q.invariant.room, c.requires.room, c.loop-q.auto.rows)) (omega (arith, many)) written c.loop-q.invariant.whole);
     }
-
-pub above-corner-requires : goal.above-corner-requires
-above-corner-requires c =
-    record {
-      strip = omega (arith, c.loop-k.invariant.0, c.requires.strips, c.loop-k-test.true);
-      across = omega (arith, c.loop-k.invariant.2, across_more c.args.segment c.args.numbers.now c.args.order.now c.loop-k.k-index c.loop-k-test.true);
-    }
-
-pub loop-k-preserved : goal.loop-k-preserved
-loop-k-preserved c =
-    let s = c.args.segment in
-    let numbers = c.args.numbers.now in
-    let order = c.args.order.now in
-    let i = c.loop-k.k-index in
-    let within = c.loop-k-test.true in
-    let k = c.loop-k.corner in
-    let q = get_or numbers (get_or order i 0) no_piece in
-    let next = c.above-corner.ensures in
-    let rest = strip_rows (corner_above k q) s numbers (drop (i + 1) order) in
-    let same : strip_rows c.above-corner.result s numbers (drop (i + 1) order) ≡ strip_rows (corner_above k q) s numbers (drop (i + 1) order) = ap (λ (z : Corner). strip_rows z s numbers (drop (i + 1) order)) next in (
-      omega (arith, c.loop-k.invariant.0, ap (λ (z : Corner). z.strip) next),
-      ap (λ (z : Corner). z.x) next ∙ c.loop-k.invariant.1,
-      omega (arith, c.loop-k.invariant.2, across_more s numbers order i within, ap (λ (z : Corner). z.y) next),
-      (known_more s numbers order i within c.loop-k.invariant.3).1,
-      omega (arith, c.loop-k.invariant.4, c.lay_strip-end.ensures.count, length_strip k.segment k.strip k.y k.x (strip_in s numbers q).pieces, strip_length s numbers order i within k, ap length same),
-      ap (λ t. take c.lay_strip-end.result c.lay_strip-end.new.rows ++ t) same
-          ∙ strip_more s numbers order i within k c.loop-k.end c.lay_strip-end.result c.loop-k.rows c.lay_strip-end.new.rows (take c.args.start c.args.rows.now ++ strip_rows (first_corner s) s numbers order) c.loop-k.invariant.5 c.lay_strip-end.ensures.front,
-    )
-
-pub returns : goal.returns
-returns c =
-    let s = c.args.segment in
-    let numbers = c.args.numbers.now in
-    let order = c.args.order.now in
-    let e = strip_last s numbers order c.loop-k.k-index c.loop-k.corner c.loop-k.end (c.args.start + length (strip_rows (first_corner s) s numbers order)) c.loop-k.rows (take c.args.start c.args.rows.now ++ strip_rows (first_corner s) s numbers order) c.loop-k-test.false c.loop-k.invariant.4 c.loop-k.invariant.5 in
-    record { count = e.0; front = e.1 }
