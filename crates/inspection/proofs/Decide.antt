@@ -42,10 +42,6 @@ cut_off {g} {ps} {s} {R} U z le fst a b =
     at_high : Clear g ps (after U.from R) (U.to + g)
     at_high i h = elim (fst i (omega arith)) [ inl w ↦ inl (omega arith) | inr e ↦ inr e ]
 
--- a piece is solid
-pub piece_solid : (g : ℕ) (ps : Pieces) (R : Rect) (i : ℕ) → Holds ps R i → Solid g ps (slice (ps.place i).along R)
-piece_solid g ps R i h p c = c i (omega arith)
-
 -- A solid slice grows by a piece that begins before a cut right after the slice would end, and is solid again.
 pub solid_grows : (g : ℕ) (ps : Pieces) (R : Rect) (U : Span) (i : ℕ) → Solid g ps (slice U R) → U.to ≤ (ps.place i).along.to → U.from ≤ (ps.place i).along.from → (ps.place i).along.from < U.to + g → Holds ps R i → Solid g ps (slice (record { from = U.from; to = (ps.place i).along.to }) R)
 solid_grows g ps R U i sol le lo lt h p c = go (sol p (λ j hj. c j (hj.0, ((omega arith, omega arith), hj.1.1)))) (c i (omega arith))
@@ -64,46 +60,34 @@ pub record Remains (g : ℕ) (ps : Pieces) (n : ℕ) (R rest : Rect) : Type 0 wh
   pub within : Inside rest R
   pub back : Apart Exact g ps n rest → Apart Exact g ps n R
 
-pub remains_all : (g : ℕ) (ps : Pieces) (n : ℕ) (R : Rect) → Remains g ps n R R
-remains_all g ps n R = record { within = (omega arith); back = λ a. a }
+last : {g : ℕ} {ps : Pieces} {R : Rect} → Apart Exact g ps 0 R → Finished Exact ps R
+last (done f) = f
 
-pub remains_more : (g : ℕ) (ps : Pieces) (n : ℕ) (R rest : Rect) (u : Span) → 0 < n → Sized ps → Group g ps rest u → Apart Exact g (all_swapped ps) (n - 1) (swapped (slice u rest)) → Remains g ps n R rest → Remains g ps n R (slice (record { from = u.to + g; to = rest.along.to }) rest)
-remains_more g ps zero R rest u lt z gr a m = absurd (omega arith)
-remains_more g ps (suc s) R rest u lt z gr a m =
+-- a part that is finished, and one with no stage left
+pub decides_early : {g : ℕ} {ps : Pieces} {n : ℕ} {R : Rect} {r : Bool} → (r ≡ true) ⊎ ((r ≡ false) × (n ≡ 0)) → Decides r (Finished Exact ps R) → Decides r (Apart Exact g ps n R)
+decides_early (inl is_true) d = (λ t. done (d.0 t), λ a. is_true)
+decides_early {g = g} {ps = ps} {R = R} (inr (is_false, none_left)) d = (λ t. done (d.0 t), λ a. d.1 (last (subst (λ (k : ℕ). Apart Exact g ps k R) none_left a)))
+
+-- a group that comes apart in the stages left goes off, and what is beyond it remains
+pub remains_more : {g : ℕ} {ps : Pieces} {n : ℕ} {R rest : Rect} {u : Span} → 0 < n → Sized ps → Group g ps rest u → Apart Exact g (all_swapped ps) (n - 1) (swapped (slice u rest)) → Remains g ps n R rest → Remains g ps n R (slice (record { from = u.to + g; to = rest.along.to }) rest)
+remains_more {n = zero} lt z gr a m = absurd (omega arith)
+remains_more {g = g} {ps = ps} {n = suc s} {R = R} {rest = rest} {u = u} lt z gr a m =
     record {
       within = let w = m.within in let v = gr.within in let p = gr.some in (omega arith);
       back = λ b. m.back (cut_off u z (omega (arith, gr.some)) gr.first (rw one_less at a) (restrict exact_fair (omega arith) b));
     }
 
-pub remains_none : (g : ℕ) (ps : Pieces) (n : ℕ) (R rest : Rect) → HoldsNone ps rest → Remains g ps n R rest → Apart Exact g ps n R
-remains_none g ps n R rest none m = m.back (nothing none)
-
--- A group that does not come apart in the stages left is the end of it.
-pub remains_stuck : (g : ℕ) (ps : Pieces) (n : ℕ) (R rest : Rect) (u : Span) → 0 < n → Group g ps rest u → Remains g ps n R rest → Apart Exact g ps n R → Apart Exact g (all_swapped ps) (n - 1) (swapped (slice u rest))
-remains_stuck g ps zero R rest u lt gr m a = absurd (omega arith)
-remains_stuck g ps (suc s) R rest u lt gr m a =
+-- one that does not is the end of it
+remains_stuck : {g : ℕ} {ps : Pieces} {n : ℕ} {R rest : Rect} {u : Span} → 0 < n → Group g ps rest u → Remains g ps n R rest → Apart Exact g ps n R → Apart Exact g (all_swapped ps) (n - 1) (swapped (slice u rest))
+remains_stuck {n = zero} lt gr m a = absurd (omega arith)
+remains_stuck {n = suc s} lt gr m a =
     let w = m.within in
     let v = gr.within in
     rw one_less (solid_rest gr.solid (omega arith) a)
 
-last : {g : ℕ} {ps : Pieces} {R : Rect} → Apart Exact g ps 0 R → Finished Exact ps R
-last (done f) = f
+pub decides_stuck : {g : ℕ} {ps : Pieces} {n : ℕ} {R rest : Rect} {u : Span} {r : Bool} → 0 < n → Group g ps rest u → Remains g ps n R rest → r ≡ false → Decides r (Apart Exact g (all_swapped ps) (n - 1) (swapped (slice u rest))) → Decides false (Apart Exact g ps n R)
+decides_stuck {r = r} lt gr m is_false d = (λ t. cc, λ a. absurd (not_from_Decides r d is_false (remains_stuck lt gr m a)))
 
-not_true : false ≡ true → ⊥
-not_true t = let z : ◌≡◌ {A = ℕ} 0 1 = cc in omega arith
-
--- What the functions that go over the stages answer: at a finished part, with no stage left, at a group that does not come apart, and at the end.
-pub decides_finished : (g : ℕ) (ps : Pieces) (n : ℕ) (R : Rect) (r : Bool) → Decides r (Finished Exact ps R) → r ≡ true → Decides r (Apart Exact g ps n R)
-decides_finished g ps n R r d is_true = (λ t. done (d.0 t), λ a. is_true)
-
-pub decides_last : (g : ℕ) (ps : Pieces) (n : ℕ) (R : Rect) (r : Bool) → n ≡ 0 → Decides r (Finished Exact ps R) → Decides r (Apart Exact g ps n R)
-decides_last g ps n R r e d = (λ t. done (d.0 t), λ a. d.1 (last (subst (λ (k : ℕ). Apart Exact g ps k R) e a)))
-
-pub decides_stuck : (g : ℕ) (ps : Pieces) (n : ℕ) (R rest : Rect) (u : Span) (r : Bool) → 0 < n → Group g ps rest u → Remains g ps n R rest → r ≡ false → Decides r (Apart Exact g (all_swapped ps) (n - 1) (swapped (slice u rest))) → Decides false (Apart Exact g ps n R)
-decides_stuck g ps n R rest u r lt gr m is_false d = (
-  λ t. absurd (not_true t),
-  λ a. absurd (not_from_Decides r d is_false (remains_stuck g ps n R rest u lt gr m a)),
-)
-
-pub decides_end : (g : ℕ) (ps : Pieces) (n : ℕ) (R rest : Rect) → HoldsNone ps rest → Remains g ps n R rest → Decides true (Apart Exact g ps n R)
-decides_end g ps n R rest none m = (λ _. remains_none g ps n R rest none m, λ _. refl)
+-- a rest with no piece comes apart
+pub decides_end : {g : ℕ} {ps : Pieces} {n : ℕ} {R rest : Rect} → HoldsNone ps rest → Remains g ps n R rest → Decides true (Apart Exact g ps n R)
+decides_end none m = (λ _. m.back (nothing none), λ _. refl)

@@ -3,3 +3,4 @@ pub mod Scan
 pub mod Judging
 pub mod Stuck
 pub mod Wheel
+pub mod Held

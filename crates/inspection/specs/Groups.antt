@@ -1,8 +1,8 @@
 -- Groups of pieces that no cut of a stage parts.
-use Rattle.std.specs.Prelude.{◌≡◌, ℕ, ◌+◌, ◌<◌, ◌≤◌, Bool, ◌⊎◌, MatchBool, Option, MatchOption}
+use Rattle.std.specs.Prelude.{◌≡◌, ℕ, ◌+◌, ◌<◌, ◌≤◌, ◌⊎◌}
 use Rattle.layout.specs.declared.rect.Span.{Span}
 use Rattle.layout.specs.declared.rect.Rect.{Rect}
-use Rattle.layout.specs.Apart.{Within, Pieces, Holds, Exact}
+use Rattle.layout.specs.Apart.{Within, Pieces, Holds}
 use Rattle.layout.specs.Changes.{slice, Solid}
 
 -- the piece i of the part ends beyond u and begins before a cut right after u would end
@@ -28,18 +28,6 @@ pub record Lowest (ps : Pieces) (R : Rect) (u : Span) : Type 0 where
   pub extent : (ps.place which).along ≡ u
   pub low : (k : ℕ) → Holds ps R k → u.from ≤ (ps.place k).along.from
 
--- the first n pieces only
-abbrev pub first : ℕ → Pieces → Pieces
-first n ps = record { count = n; place = ps.place }
-
--- the lowest extent among the first n pieces, if the part holds one of them
-abbrev pub LowestSo : Pieces → Rect → ℕ → Option Span → Type 0
-LowestSo ps R n best = MatchOption best (HoldsNone (first n ps) R) (λ u. Lowest (first n ps) R u)
-
--- r is the lower one of best and u
-abbrev pub Lower : Option Span → Span → Span → Type 0
-Lower best u r = MatchOption best (r ≡ u) (λ b. ((r ≡ b) × (b.from ≤ u.from)) ⊎ ((r ≡ u) × (u.from < b.from)))
-
 -- a group in the making: no cut goes into it, and no piece begins lower
 pub record Growing (g : ℕ) (ps : Pieces) (R : Rect) (u : Span) : Type 0 where
   pub within : Within u R.along
@@ -53,14 +41,3 @@ pub record Group (g : ℕ) (ps : Pieces) (R : Rect) (u : Span) : Type 0 where
   pub some : u.from < u.to
   pub first : (i : ℕ) → Holds ps R i → Within (ps.place i).along u ⊎ (u.to + g ≤ (ps.place i).along.from)
   pub solid : Solid g ps (slice u R)
-
--- of the pieces the part holds one only, and is exactly it
-pub record Whole (ps : Pieces) (R : Rect) : Type 0 where
-  pub which : ℕ
-  pub held : Holds ps R which
-  pub exact : Exact R (ps.place which)
-  pub only : (j : ℕ) → Holds ps R j → j ≡ which
-
--- the first n pieces leave the part finished: found says whether it holds one of them
-abbrev pub FinishedSo : Pieces → Rect → ℕ → Bool → Type 0
-FinishedSo ps R n found = MatchBool found (Whole (first n ps) R) (HoldsNone (first n ps) R)

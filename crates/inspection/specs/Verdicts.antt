@@ -1,9 +1,9 @@
 -- The number of each verdict, and which verdict a plate gets.
-use Rattle.std.specs.Prelude.{◌≡◌, ℕ, ◌<◌, ◌≤◌, false, ◌⊎◌, List, length as size, slice_index_or}
+use Rattle.std.specs.Prelude.{◌≡◌, ℕ, ◌<◌, ◌≤◌, false, ◌⊎◌, List, length as size, slice_index_or, Any}
 use Rattle.layout.specs.declared.panel.Panel.{Panel}
 use Rattle.layout.specs.declared.row.Row.{Row}
 use Rattle.layout.specs.Limits.{Between, Outside}
-use Rattle.layout.specs.Pieces.{no_panel, blank, panel_of, end, top}
+use Rattle.layout.specs.Pieces.{blank, panel_of, end, top}
 use Rattle.layout.specs.Apart.{Exact, ComesApart, plate}
 use Rattle.layout.specs.Places.{pieces}
 use Rattle.inspection.specs.declared.verdict.Verdict.{Verdict}
@@ -28,14 +28,6 @@ pub record Plate : Type 0 where
 abbrev pub plate_of : ℕ → ℕ → ℕ → ℕ → List Panel → List Row → Plate
 plate_of length width saw stages kinds rows = record { length = length; width = width; saw = saw; stages = stages; kinds = kinds; rows = rows }
 
--- P holds of each kind
-abbrev pub EachPanel : (Panel → Type 0) → List Panel → Type 0
-EachPanel P kinds = (i : ℕ) → i < size kinds → P (slice_index_or kinds i no_panel)
-
--- P holds of some kind
-abbrev pub SomePanel : (Panel → Type 0) → List Panel → Type 0
-SomePanel P kinds = (i : ℕ) × (i < size kinds) × P (slice_index_or kinds i no_panel)
-
 -- both sides of the kind are 50 to 3,000
 abbrev pub LawfulPanel : Panel → Type 0
 LawfulPanel k = Between 50 3000 k.length × Between 50 3000 k.width
@@ -47,7 +39,7 @@ BadPanel k = Outside 50 3000 k.length ⊎ Outside 50 3000 k.width
 -- why a plate is not inspected: 1 a side of the plate or of a kind outside 50 to 3,000, 5 more than 4,096 rows, 6 a saw width above 20 or stages outside 1 to 7, 11 more than 32 kinds
 abbrev pub InspectCause : Plate → ℕ → Type 0
 InspectCause p c =
-    ((c ≡ 1) × (Outside 50 3000 p.length ⊎ Outside 50 3000 p.width ⊎ SomePanel BadPanel p.kinds))
+    ((c ≡ 1) × (Outside 50 3000 p.length ⊎ Outside 50 3000 p.width ⊎ Any BadPanel p.kinds))
     ⊎ ((c ≡ 5) × (4096 < size p.rows))
     ⊎ ((c ≡ 6) × ((20 < p.saw) ⊎ Outside 1 7 p.stages))
     ⊎ ((c ≡ 11) × (32 < size p.kinds))

@@ -1,33 +1,27 @@
 // Where the pieces of a list of rows lie, and how they lie to a part.
-ghost use Rattle.std.specs.Prelude.{◌≡◌, ◌+◌, ◌<◌, length as size, Decides};
-ghost use Rattle.layout.specs.Apart.{Inside, Exact, plate};
+ghost use Rattle.std.specs.Prelude.{◌≡◌, ◌+◌, ◌<◌, ◌↔◌, IsTrue, length as size};
+ghost use Rattle.layout.specs.Apart.{Inside, plate};
 ghost use Rattle.layout.specs.Places.{place_of};
-ghost use Rattle.inspection.specs.Directions.{seen};
+ghost use Rattle.inspection.specs.Directions.{seen, HeldIn};
 
 use layout::panel::Panel;
 use layout::rect::{Rect, Span};
 use layout::row::Row;
 
 // The direction of the plate that the cuts of a stage divide.
-#[derive(Clone, Copy)]
+#[derive(Clone, Copy, Debug, PartialEq, Eq)]
 pub(crate) enum Direction {
     Length,
     Width,
 }
-
-// What stands in the places of a table that have no piece.
-pub(crate) const NO_RECT: Rect = Rect {
-    along: Span { from: 0, to: 0 },
-    across: Span { from: 0, to: 0 },
-};
 
 // The extent of some size that begins at `from`. The sum is made in 32 bits, so that it is right for every two numbers.
 fn span(from: u16, size: u16) -> Span
     ensures { (result.from ≡ from) × (result.to ≡ from + size) }
 {
     Span {
-        from: from as u32,
-        to: from as u32 + size as u32,
+        from: u32::from(from),
+        to: u32::from(from) + u32::from(size),
     }
 }
 
@@ -36,14 +30,8 @@ pub(crate) fn whole_plate(length: u16, width: u16) -> Rect
     ensures { result ≡ plate length width }
 {
     Rect {
-        along: Span {
-            from: 0,
-            to: length as u32,
-        },
-        across: Span {
-            from: 0,
-            to: width as u32,
-        },
+        along: span(0, length),
+        across: span(0, width),
     }
 }
 
@@ -52,7 +40,7 @@ pub(crate) fn place(kinds: &[Panel], row: Row) -> Rect
     requires { row.kind < size kinds.now }
     ensures { result ≡ place_of kinds.now row }
 {
-    let kind = kinds[row.kind as usize];
+    let kind = kinds[usize::from(row.kind)];
     Rect {
         along: span(row.x, kind.along_size(row.turned)),
         across: span(row.y, kind.across_size(row.turned)),
@@ -73,8 +61,8 @@ pub(crate) fn view(direction: Direction, r: Rect) -> Rect
 }
 
 // Whether a rectangle lies inside another.
-pub(crate) fn inside(q: Rect, r: Rect) -> bool
-    ensures { Decides result (Inside q r) }
+fn inside(q: Rect, r: Rect) -> bool
+    ensures { IsTrue result ↔ Inside q r }
 {
     r.along.from <= q.along.from
         && q.along.to <= r.along.to
@@ -82,12 +70,10 @@ pub(crate) fn inside(q: Rect, r: Rect) -> bool
         && q.across.to <= r.across.to
 }
 
-// Whether the part is exactly the piece.
-pub(crate) fn is_exact(part: Rect, piece: Rect) -> bool
-    ensures { Decides result (Exact part piece) }
+// The piece at a place with the direction at hand first, where the part holds it.
+pub(crate) fn held(direction: Direction, part: Rect, place: Rect) -> Option<Rect>
+    ensures { HeldIn direction part place result }
 {
-    part.along.from == piece.along.from
-        && part.along.to == piece.along.to
-        && part.across.from == piece.across.from
-        && part.across.to == piece.across.to
+    let piece = view(direction, place);
+    inside(piece, part).then_some(piece)
 }

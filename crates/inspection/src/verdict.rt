@@ -2,14 +2,14 @@
 ghost use Rattle.std.specs.Prelude.{◌≡◌};
 ghost use Rattle.inspection.specs.Verdicts.{number_of};
 
-#[derive(Clone, Copy)]
+#[derive(Clone, Copy, Debug, PartialEq, Eq)]
 pub enum Verdict {
     // no row is at fault, and the plate comes apart
-    Accepted,
+    Accepted = 0,
     // a row is at fault
-    FaultyRow,
+    FaultyRow = 21,
     // no row is at fault, and the plate does not come apart
-    NotApart,
+    NotApart = 22,
 }
 
 impl Verdict {
@@ -17,10 +17,6 @@ impl Verdict {
     pub fn code(self) -> u8
         ensures { result ≡ number_of self }
     {
-        match self {
-            Verdict::Accepted => 0,
-            Verdict::FaultyRow => 21,
-            Verdict::NotApart => 22,
-        }
+        self as u8
     }
 }
