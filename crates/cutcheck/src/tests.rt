@@ -100,7 +100,7 @@ fn reports(
     accepted: bool,
 ) -> Result<(), Fail> {
     let report = check_plate(heap, text.as_bytes())?;
-    assert!(rt; report.printed.as_str() == expected);
+    assert_eq!(rt; report.printed.as_str(), expected);
     assert_eq!(rt; report.accepted, accepted);
     Ok(())
 }
@@ -138,8 +138,7 @@ fn squares(heap: Global, rows: usize, stages: usize) -> Result<String, Fail> {
     for i in 0..rows {
         let x = i % 60 * 50;
         let y = i / 60 % 60 * 50;
-        let line = format!(in heap; "0 n 0 0 k {x} {y}\n")?;
-        text.push_str(line.as_str())?;
+        write!(text, "0 n 0 0 k {x} {y}\n")?;
     }
     Ok(text)
 }

@@ -8,6 +8,7 @@ use std::io::Read;
 #[cfg(test)]
 mod tests;
 
+// The same steps as in cutcheck. No library has them: each public function of one has a contract that pins its result, and none can say what is read and printed.
 fn main(rt: HostRuntime) -> io::Result<()> {
     let heap = rt.alloc();
     let mut text = Vec::new(heap);

@@ -41,7 +41,7 @@ fn reports(
     accepted: bool,
 ) -> Result<(), Fail> {
     let report = judge(heap, text)?;
-    assert!(rt; report.printed.as_str() == expected);
+    assert_eq!(rt; report.printed.as_str(), expected);
     assert_eq!(rt; report.accepted, accepted);
     Ok(())
 }

@@ -1,6 +1,5 @@
 -- Order texts, and where a text is at fault.
-use Rattle.std.specs.Prelude.{◌≡◌, ℕ, ◌+◌, ◌<◌, ◌≤◌, List, [], ◌∷◌, ◌++◌, length, take}
-use Rattle.std.specs.List.{AllByRecursion}
+use Rattle.std.specs.Prelude.{◌≡◌, ℕ, ◌+◌, ◌<◌, ◌≤◌, List, [], ◌∷◌, ◌++◌, length, take, All}
 use Rattle.text.specs.Fields.{lines}
 use Rattle.text.specs.Texts.{Begins}
 use Rattle.orders.specs.declared.order.Head.{Head}
@@ -18,7 +17,7 @@ text_of h is = line_of_job h ++ item_lines is
 -- t is the text of an order whose numbers have at most seven digits
 pub record TextOf (h : Head) (is : List Item) (t : List ℕ) : Type 0 where
   pub short_head : ShortHead h
-  pub short_items : AllByRecursion ShortItem is
+  pub short_items : All ShortItem is
   pub text : t ≡ text_of h is
 
 -- t is the text of some order, whatever its length

@@ -1,15 +1,11 @@
 -- The line that restates an order, byte by byte.
-use Rattle.std.specs.Prelude.{◌≡◌, ℕ, ◌≤◌, Bool, true, List, ◌++◌, length, codes, decimal, sum_by}
+use Rattle.std.specs.Prelude.{◌≡◌, ℕ, Bool, true, List, ◌++◌, length, codes, decimal, sum_by}
 use Rattle.orders.specs.declared.order.Head.{Head}
 use Rattle.orders.specs.declared.order.Item.{Item}
 
 -- the sum of the ordered numbers
 abbrev pub pieces_of : List Item → ℕ
 pieces_of is = sum_by (λ i. i.ordered) is
-
--- no more items than a text has bytes
-abbrev pub Few : List Item → Type 0
-Few is = length is ≤ 65536
 
 -- `order JOB plate LENGTH WIDTH saw SAW trim TRIM`, the first line of the text restated
 abbrev pub head_words : Head → List ℕ

@@ -1,8 +1,6 @@
 // What the program prints for an order text.
-ghost use Rattle.std.specs.Prelude.{◌≡◌, is_ok, IfOk, string_bytes};
-ghost use Rattle.std.specs.List.{AllByRecursion};
-ghost use Rattle.orders.specs.Lines.{ShortItem};
-ghost use Rattle.orders.specs.Printed.{Few, Appended, pieces_of, head_words, count_words, order_line};
+ghost use Rattle.std.specs.Prelude.{◌≡◌, ◌^◌, ◌<◌, is_ok, IfOk, string_bytes};
+ghost use Rattle.orders.specs.Printed.{Appended, pieces_of, head_words, count_words, order_line};
 ghost use Rattle.orders.specs.Judged.{Judged};
 
 use crate::order::{Head, Item};
@@ -14,15 +12,10 @@ use text::report::{Report, bad};
 
 // How many pieces are ordered in all.
 fn pieces_of_items(items: &[Item]) -> u64
-    requires few { Few items.now }
-    requires short { AllByRecursion ShortItem items.now }
+    requires { pieces_of items.now < 2 ^ 64 }
     ensures { result ≡ pieces_of items.now }
 {
-    let mut pieces = 0;
-    for item in items {
-        pieces += u64::from(item.ordered);
-    }
-    pieces
+    items.iter().map(|item| u64::from(item.ordered)).sum()
 }
 
 // The first half of the line that restates an order.
@@ -51,8 +44,7 @@ fn push_counts(out: &mut String, lines: usize, pieces: u64) -> Result<(), AllocE
 
 // The order on one line.
 fn push_order(out: &mut String, head: Head, items: &[Item]) -> Result<(), AllocError>
-    requires few { Few items.now }
-    requires short { AllByRecursion ShortItem items.now }
+    requires { pieces_of items.now < 2 ^ 64 }
     ensures { Appended (is_ok result) (string_bytes out.old) (order_line head items.now) (string_bytes out.new) }
 {
     push_head(out, head)?;
@@ -67,20 +59,12 @@ pub fn judge(heap: Global, text: &[u8]) -> Result<Report, AllocError>
         Ok(order) => {
             let mut printed = String::new(heap);
             push_order(&mut printed, order.head, order.items.as_slice())?;
-            Ok(Report {
-                printed,
-                accepted: true,
-            })
+            Ok(Report::accepting(printed))
         }
-        Err(unread) => match unread {
-            Unread::Fault(place) => {
-                let printed = bad(heap, Refusal::Text, place.line, place.column)?;
-                Ok(Report {
-                    printed,
-                    accepted: false,
-                })
-            }
-            Unread::Memory => Err(AllocError),
-        },
+        Err(Unread::Fault(place)) => {
+            let printed = bad(heap, Refusal::Text, place.line, place.column)?;
+            Ok(Report::refusing(printed))
+        }
+        Err(Unread::Memory) => Err(AllocError),
     }
 }

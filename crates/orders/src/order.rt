@@ -1,7 +1,7 @@
 // What an order text says. Its numbers have at most seven digits, and are not yet held to any range.
 
 // The first line: job number, sides of the plate, saw width and trim.
-#[derive(Clone, Copy)]
+#[derive(Clone, Copy, Debug, PartialEq, Eq)]
 pub struct Head {
     pub job: u32,
     pub length: u32,
@@ -11,7 +11,7 @@ pub struct Head {
 }
 
 // An item line: a panel, its value and how many are ordered.
-#[derive(Clone, Copy)]
+#[derive(Clone, Copy, Debug, PartialEq, Eq)]
 pub struct Item {
     pub length: u32,
     pub width: u32,
@@ -20,7 +20,8 @@ pub struct Item {
     pub ordered: u32,
 }
 
-#[derive(Drop)]
+// The whole text: its first line and its items.
+#[derive(Debug, PartialEq, Eq, Drop)]
 pub struct Order {
     pub head: Head,
     pub items: Vec<Item>,

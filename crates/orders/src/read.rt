@@ -3,23 +3,19 @@ ghost use Rattle.std.specs.Result.{MatchResult};
 ghost use Rattle.orders.specs.Replies.{Says, SaysOnly, Stopped, UnreadBy};
 
 use crate::check::first_fault;
-use crate::lines::{item_line, job_line};
+use crate::lines::job_line;
 use crate::order::Order;
 use crate::unread::Unread;
 use std::alloc::Global;
+use text::lines::read_lines;
 use text::stop::Stop;
 
 // The whole of a text, whatever its length.
-fn read_lines<'a>(heap: Global, text: &'a [u8]) -> Result<Order, Stop<'a>>
+fn read_whole<'a>(heap: Global, text: &'a [u8]) -> Result<Order, Stop<'a>>
     ensures { MatchResult result (λ o. Says o text.now) (λ s. Stopped s text.now) }
 {
-    let (head, mut rest) = job_line(text)?;
-    let mut items = Vec::new(heap);
-    while !rest.is_empty() {
-        let (item, after) = item_line(rest)?;
-        items.push(item)?;
-        rest = after;
-    }
+    let (head, rest) = job_line(text)?;
+    let (items, _) = read_lines(heap, rest)?;
     Ok(Order { head, items })
 }
 
@@ -31,12 +27,10 @@ pub fn read_order(heap: Global, text: &[u8]) -> Result<Order, Unread>
     if let Some(place) = first_fault(text) {
         return Err(Unread::Fault(place));
     }
-    match read_lines(heap, text) {
+    match read_whole(heap, text) {
         Ok(order) => Ok(order),
-        Err(stop) => match stop {
-            // a text without a fault
-            Stop::Fault(_) => unreachable(),
-            Stop::Memory => Err(Unread::Memory),
-        },
+        // the text has no fault; a closure would have to be told so
+        Err(Stop::Fault(_)) => unreachable(),
+        Err(Stop::Memory) => Err(Unread::Memory),
     }
 }

@@ -1,7 +1,7 @@
 // Why a text was not read.
 use text::place::Place;
 
-#[derive(Clone, Copy)]
+#[derive(Clone, Copy, Debug, PartialEq, Eq)]
 pub enum Unread {
     // the text is at fault, first at this place
     Fault(Place),

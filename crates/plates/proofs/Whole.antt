@@ -1,79 +1,75 @@
 -- Whole plate texts: read in one way, and with one first bad line.
-use Rattle.std.proofs.Common.{◌≡◌, ℕ, ◌+◌, ◌<◌, List, [], ◌∷◌, ◌++◌, length, sym, refl, ap, ◌∙◌, subst, inl, inr, append_assoc, append-nil, arith, length-append}
-use Rattle.std.specs.List.{AllByRecursion}
+use Rattle.std.proofs.Common.{◌≡◌, ℕ, ◌+◌, ◌<◌, List, [], ◌∷◌, ◌++◌, length, All, sym, refl, ap, ◌∙◌, subst, inl, inr, append_assoc, append-nil, arith, length-append}
+use Rattle.std.proofs.lemmas.List.{nil_from_length}
+use Rattle.std.proofs.lemmas.List.Elements.{All-nil, All-head}
 use Rattle.text.specs.Texts.{Stops}
 use Rattle.text.proofs.Codes.{Cut, cuts, no_front}
-use Rattle.text.proofs.Many.{peel}
+use Rattle.text.specs.Many.{LinesRead, FaultyLine, BrokeOff}
+use Rattle.text.specs.declared.lines.Broken.{Broken}
+use Rattle.text.specs.declared.lines.Broken.TheVariants.{Line, Memory}
+use Rattle.text.proofs.Forms.{line_code, same_line}
+use Rattle.text.proofs.Many.{peel, none_in_nothing, same_lines}
 use Rattle.plates.specs.declared.plate.Setting.{Setting}
 use Rattle.plates.specs.declared.plate.KindEntry.{KindEntry}
 use Rattle.plates.specs.declared.plate.RowEntry.{RowEntry}
 use Rattle.plates.specs.Lines.{line_of_plate, line_of_kind, line_of_row, ShortSetting, ShortKind, ShortRow, PlateLine, KindLine, RowLine}
 use Rattle.plates.specs.Texts.{kind_lines, row_lines, text_of, TextOf, Lawful, ReadAs, WholeLines, StopsAfter, BadLine}
+use Rattle.plates.specs.Replies.{Kindly, unread_after, PartUnread, PlateUnread}
 use Rattle.plates.specs.declared.unread.Unread.{Unread}
-use Rattle.plates.specs.declared.unread.Unread.TheVariants.{Line, Memory}
-use Rattle.plates.specs.Replies.{Kindly, BadKind, BadRow, KindsStopped, RowsStopped, PlateUnread}
-use Rattle.plates.proofs.LineParts.{plate_code, kind_code, row_code, same_plate, same_kind, same_row}
+use Rattle.plates.proofs.LineParts.{plate_form, kind_form, row_form}
 use Rattle.plates.proofs.Fronts.{kind_some, row_some, kind_kindly, row_not_kindly}
 
 -- no kind line begins row lines, and no line begins nothing
-no_kind_in_rows : (rs : List RowEntry) → AllByRecursion ShortRow rs → (k : KindEntry) (w : List ℕ) → ShortKind k → row_lines rs ≡ line_of_kind k ++ w → ⊥
-no_kind_in_rows [] sr k w sk e = omega (arith, kind_some k, simp length-append at (ap length e))
-no_kind_in_rows (r ∷ rs) sr k w sk e = row_not_kindly r (row_lines rs) (row_lines (r ∷ rs)) sr.0 refl (kind_kindly k w (row_lines (r ∷ rs)) e)
+no_kind_in_rows : (rs : List RowEntry) → All ShortRow rs → (k : KindEntry) (w : List ℕ) → ShortKind k → row_lines rs ≡ line_of_kind k ++ w → ⊥
+no_kind_in_rows [] sr k w sk e = none_in_nothing line_of_kind kind_some k w e
+no_kind_in_rows (r ∷ rs) sr k w sk e = row_not_kindly r (row_lines rs) (row_lines (r ∷ rs)) (All-head ShortRow r rs sr) refl (kind_kindly k w (row_lines (r ∷ rs)) e)
 
 no_row_in_none : (r : RowEntry) (w : List ℕ) → ShortRow r → [] ≡ line_of_row r ++ w → ⊥
-no_row_in_none r w s e = omega (arith, row_some r, simp length-append at (ap length e))
+no_row_in_none r w s e = none_in_nothing line_of_row row_some r w e
 
 -- what may follow on a whole front: kinds and rows, but after a row only rows
 pub record Follows (rs : List RowEntry) (more : List ℕ) : Type 0 where
   pub kinds : List KindEntry
   pub rows : List RowEntry
-  pub short_kinds : AllByRecursion ShortKind kinds
-  pub short_rows : AllByRecursion ShortRow rows
+  pub short_kinds : All ShortKind kinds
+  pub short_rows : All ShortRow rows
   pub text : more ≡ kind_lines kinds ++ row_lines rows
   pub order : 0 < length rs → kinds ≡ []
 
-after_rows : (rs : List RowEntry) (more : List ℕ) (zs : List KindEntry) (ps : List RowEntry) → AllByRecursion ShortRow rs → AllByRecursion ShortKind zs → AllByRecursion ShortRow ps
+after_rows : (rs : List RowEntry) (more : List ℕ) (zs : List KindEntry) (ps : List RowEntry) → All ShortRow rs → All ShortKind zs → All ShortRow ps
     → row_lines rs ++ more ≡ kind_lines zs ++ row_lines ps → Follows rs more
 after_rows [] more zs ps sr sz sp e = record { kinds = zs; rows = ps; short_kinds = sz; short_rows = sp; text = e; order = λ h. absurd (omega (arith, h)) }
 after_rows (r ∷ rs) more (z ∷ zs) ps sr sz sp e =
-    absurd (row_not_kindly r (row_lines rs ++ more) (row_lines (r ∷ rs) ++ more) sr.0 (append_assoc (line_of_row r) (row_lines rs) more)
+    absurd (row_not_kindly r (row_lines rs ++ more) (row_lines (r ∷ rs) ++ more) (All-head ShortRow r rs sr) (append_assoc (line_of_row r) (row_lines rs) more)
     (kind_kindly z (kind_lines zs ++ row_lines ps) (row_lines (r ∷ rs) ++ more) (e ∙ append_assoc (line_of_kind z) (kind_lines zs) (row_lines ps))))
 after_rows (r ∷ rs) more [] ps sr sz sp e =
-    let p = peel line_of_row ShortRow same_row (r ∷ rs) ps more [] sr sp no_row_in_none (e ∙ sym (append-nil (row_lines ps))) in
-    record { kinds = []; rows = p.more; short_kinds = tt; short_rows = p.short; text = p.rest ∙ append-nil (row_lines p.more); order = λ h. refl }
+    let p = peel line_of_row ShortRow (same_line row_form) (r ∷ rs) ps more [] sr sp no_row_in_none (e ∙ sym (append-nil (row_lines ps))) in
+    record { kinds = []; rows = p.more; short_kinds = All-nil ShortKind; short_rows = p.short; text = p.rest ∙ append-nil (row_lines p.more); order = λ h. refl }
 
 -- a whole front and more make a plate text only by more lines
 follows : (s : Setting) (ks : List KindEntry) (rs : List RowEntry) (front more : List ℕ) → TextOf s ks rs front → Lawful (front ++ more) → Follows rs more
 follows s ks rs front more o (q, ls, ps, n) =
     let e : line_of_plate s ++ ((kind_lines ks ++ row_lines rs) ++ more) ≡ line_of_plate q ++ (kind_lines ls ++ row_lines ps)
     = sym (append_assoc (line_of_plate s) (kind_lines ks ++ row_lines rs) more) ∙ ap (λ z. z ++ more) (sym o.text) ∙ n.text in
-    let b = (same_plate s q ((kind_lines ks ++ row_lines rs) ++ more) (kind_lines ls ++ row_lines ps) o.short_setting n.short_setting e).1 in
-    let p = peel line_of_kind ShortKind same_kind ks ls (row_lines rs ++ more) (row_lines ps) o.short_kinds n.short_kinds (no_kind_in_rows ps n.short_rows)
+    let b = (same_line plate_form s q ((kind_lines ks ++ row_lines rs) ++ more) (kind_lines ls ++ row_lines ps) o.short_setting n.short_setting e).1 in
+    let p = peel line_of_kind ShortKind (same_line kind_form) ks ls (row_lines rs ++ more) (row_lines ps) o.short_kinds n.short_kinds (no_kind_in_rows ps n.short_rows)
     (sym (append_assoc (kind_lines ks) (row_lines rs) more) ∙ b) in
     after_rows rs more p.more ps o.short_rows p.short n.short_rows p.rest
 
 -- one text reads as one plate
-none_left : (rs ps : List RowEntry) (zs : List KindEntry) → AllByRecursion ShortRow rs → AllByRecursion ShortKind zs → row_lines rs ≡ kind_lines zs ++ row_lines ps → zs ≡ []
+none_left : (rs ps : List RowEntry) (zs : List KindEntry) → All ShortRow rs → All ShortKind zs → row_lines rs ≡ kind_lines zs ++ row_lines ps → zs ≡ []
 none_left rs ps [] sr sz e = refl
-none_left rs ps (z ∷ zs) sr sz e = absurd (no_kind_in_rows rs sr z (kind_lines zs ++ row_lines ps) sz.0 (e ∙ append_assoc (line_of_kind z) (kind_lines zs) (row_lines ps)))
+none_left rs ps (z ∷ zs) sr sz e = absurd (no_kind_in_rows rs sr z (kind_lines zs ++ row_lines ps) (All-head ShortKind z zs sz) (e ∙ append_assoc (line_of_kind z) (kind_lines zs) (row_lines ps)))
 
 same_text : (t : List ℕ) (s q : Setting) (ks ls : List KindEntry) (rs ps : List RowEntry) → TextOf s ks rs t → TextOf q ls ps t → (q ≡ s) × (ls ≡ ks) × (ps ≡ rs)
 same_text t s q ks ls rs ps o n =
-    let b = same_plate s q (kind_lines ks ++ row_lines rs) (kind_lines ls ++ row_lines ps) o.short_setting n.short_setting (sym o.text ∙ n.text) in
-    let p = peel line_of_kind ShortKind same_kind ks ls (row_lines rs) (row_lines ps) o.short_kinds n.short_kinds (no_kind_in_rows ps n.short_rows) b.1 in
+    let b = same_line plate_form s q (kind_lines ks ++ row_lines rs) (kind_lines ls ++ row_lines ps) o.short_setting n.short_setting (sym o.text ∙ n.text) in
+    let p = peel line_of_kind ShortKind (same_line kind_form) ks ls (row_lines rs) (row_lines ps) o.short_kinds n.short_kinds (no_kind_in_rows ps n.short_rows) b.1 in
     let none = none_left rs ps p.more o.short_rows p.short p.rest in
     let rows : row_lines rs ≡ row_lines ps = p.rest ∙ ap (λ z. kind_lines z ++ row_lines ps) none in
-    let r = peel line_of_row ShortRow same_row rs ps [] [] o.short_rows n.short_rows no_row_in_none (append-nil (row_lines rs) ∙ rows ∙ sym (append-nil (row_lines ps))) in (
-      sym b.0,
-      p.whole ∙ ap (λ z. ks ++ z) none ∙ append-nil ks,
-      r.whole ∙ ap (λ z. rs ++ z) (no_more r.more (r.rest ∙ append-nil (row_lines r.more))) ∙ append-nil rs,
-    )
-  where
-    no_more : (xs : List RowEntry) → [] ≡ row_lines xs → xs ≡ []
-    no_more [] e = refl
-    no_more (x ∷ xs) e = absurd (omega (arith, row_some x, simp length-append at (ap length e)))
+    (sym b.0, p.whole ∙ ap (λ z. ks ++ z) none ∙ append-nil ks, sym (same_lines line_of_row ShortRow (same_line row_form) row_some rs ps o.short_rows n.short_rows rows))
 
-pub read_as : (t : List ℕ) (s : Setting) (ks : List KindEntry) (rs : List RowEntry) → TextOf s ks rs t → ReadAs s ks rs t
+read_as : (t : List ℕ) (s : Setting) (ks : List KindEntry) (rs : List RowEntry) → TextOf s ks rs t → ReadAs s ks rs t
 read_as t s ks rs o = record { says = o; only = λ q ls ps n. same_text t s q ks ls rs ps o n }
 
 -- ---- the first bad line
@@ -139,20 +135,20 @@ bad_first t left s = bad_line_at t 0 1 (stopped t [] t 0 refl (inl (refl, refl))
   where
     no_plate : (more rest : List ℕ) → t ≡ more ++ rest → Lawful ([] ++ more) → more ≡ []
     no_plate more rest e (q, ls, ps, o) =
-        absurd (no_front PlateLine plate_code t left (line_of_plate q) ((kind_lines ls ++ row_lines ps) ++ rest) s (q, o.short_setting, refl)
+        absurd (no_front PlateLine (line_code plate_form) t left (line_of_plate q) ((kind_lines ls ++ row_lines ps) ++ rest) s (q, o.short_setting, refl)
         (e ∙ ap (λ z. z ++ rest) o.text ∙ append_assoc (line_of_plate q) (kind_lines ls ++ row_lines ps) rest))
 
 -- where neither a kind line nor a row line may come next, nothing follows
 module _ (rs : List RowEntry) (rest : List ℕ)
     (no_kind : (k : KindEntry) (w : List ℕ) → ShortKind k → (0 < length rs → ⊥) → rest ≡ line_of_kind k ++ w → ⊥)
     (no_row : (r : RowEntry) (w : List ℕ) → ShortRow r → rest ≡ line_of_row r ++ w → ⊥) where
-  by_lines : (more left : List ℕ) → rest ≡ more ++ left → (zs : List KindEntry) (ps : List RowEntry) → AllByRecursion ShortKind zs → AllByRecursion ShortRow ps
+  by_lines : (more left : List ℕ) → rest ≡ more ++ left → (zs : List KindEntry) (ps : List RowEntry) → All ShortKind zs → All ShortRow ps
       → more ≡ kind_lines zs ++ row_lines ps → (0 < length rs → zs ≡ []) → more ≡ []
   by_lines more left e [] [] sz sp text order = text
   by_lines more left e [] (r ∷ ps) sz sp text order =
-      absurd (no_row r (row_lines ps ++ left) sp.0 (e ∙ ap (λ z. z ++ left) text ∙ append_assoc (line_of_row r) (row_lines ps) left))
+      absurd (no_row r (row_lines ps ++ left) (All-head ShortRow r ps sp) (e ∙ ap (λ z. z ++ left) text ∙ append_assoc (line_of_row r) (row_lines ps) left))
   by_lines more left e (z ∷ zs) ps sz sp text order =
-      absurd (no_kind z ((kind_lines zs ++ row_lines ps) ++ left) sz.0 (λ h. omega (arith, ap length (order h)))
+      absurd (no_kind z ((kind_lines zs ++ row_lines ps) ++ left) (All-head ShortKind z zs sz) (λ h. omega (arith, ap length (order h)))
       (e ∙ ap (λ z. z ++ left) text ∙ simp append_assoc))
 
   nothing_follows : (more left : List ℕ) → rest ≡ more ++ left → Follows rs more → more ≡ []
@@ -169,40 +165,59 @@ bad_after t front rest s ks rs e o some no_kind no_row =
     (λ none l. omega (arith, some, ap length none)))
     refl
 
--- a kind line is bad
-bad_kind : (t u : List ℕ) (s : Setting) (a : ℕ) → ShortSetting s → t ≡ line_of_plate s ++ u → BadKind u 1 a → BadLine t a
-bad_kind t u s a ss e b =
-    let front = text_of s b.kinds [] in
-    let whole : t ≡ front ++ b.rest = e ∙ ap (λ z. line_of_plate s ++ z) b.parts ∙ simp (append_assoc, append-nil) in
-    let o : TextOf s b.kinds [] front = record { short_setting = ss; short_kinds = b.short; short_rows = tt; text = refl } in
-    let n : 1 + length b.kinds + 0 + 1 ≡ a = omega (arith, b.line) in
-    subst (BadLine t) n
-    (bad_after t front b.rest s b.kinds [] whole o (omega (arith, ap length b.begins.1))
-    (λ k w sk none g. no_front KindLine kind_code b.rest b.left (line_of_kind k) w b.stops (k, sk, refl) g)
-    (λ r w sr g. row_not_kindly r w b.rest sr g b.begins))
+-- t is the first line of s, and then u
+module _ (t u : List ℕ) (s : Setting) (ss : ShortSetting s) (e : t ≡ line_of_plate s ++ u) where
+  -- a kind line is bad
+  bad_kind : (n a : ℕ) (left : List ℕ) → FaultyLine line_of_kind ShortKind Kindly u n left → a ≡ 1 + n + 1 → BadLine t a
+  bad_kind n a left b line =
+      let front = text_of s b.whole [] in
+      let whole : t ≡ front ++ b.rest = e ∙ ap (λ z. line_of_plate s ++ z) b.parts ∙ simp (append_assoc, append-nil) in
+      let o : TextOf s b.whole [] front = record { short_setting = ss; short_kinds = b.short; short_rows = All-nil ShortRow; text = refl } in
+      let same : 1 + length b.whole + 0 + 1 ≡ a = omega (arith, b.count, line) in
+      subst (BadLine t) same
+      (bad_after t front b.rest s b.whole [] whole o (omega (arith, ap length b.next.1))
+      (λ k w sk none g. no_front KindLine (line_code kind_form) b.rest left (line_of_kind k) w b.stops (k, sk, refl) g)
+      (λ r w sr g. row_not_kindly r w b.rest sr g b.next))
 
--- a row line is bad
-bad_row : (t u v : List ℕ) (s : Setting) (ks : List KindEntry) (a : ℕ) → ShortSetting s → AllByRecursion ShortKind ks → t ≡ line_of_plate s ++ u → u ≡ kind_lines ks ++ v → (Kindly v → ⊥)
-    → BadRow v (length ks + 1) a → BadLine t a
-bad_row t u v s ks a ss sk e f ended b =
-    let front = text_of s ks b.rows in
-    let whole : t ≡ front ++ b.rest = e ∙ ap (λ z. line_of_plate s ++ z) (f ∙ ap (λ z. kind_lines ks ++ z) b.parts) ∙ simp append_assoc in
-    let o : TextOf s ks b.rows front = record { short_setting = ss; short_kinds = sk; short_rows = b.short; text = refl } in
-    let n : 1 + length ks + length b.rows + 1 ≡ a = omega (arith, b.line) in
-    subst (BadLine t) n
-    (bad_after t front b.rest s ks b.rows whole o b.some
-    (λ k w short none g. ended (kind_kindly k w v (b.parts ∙ ap (λ z. z ++ b.rest) (no_rows b.rows none) ∙ g)))
-    (λ r w sr g. no_front RowLine row_code b.rest b.left (line_of_row r) w b.stops (r, sr, refl) g))
-  where
-    no_rows : (xs : List RowEntry) → (0 < length xs → ⊥) → row_lines xs ≡ []
-    no_rows [] none = refl
-    no_rows (x ∷ xs) none = absurd (none (omega arith))
+  kinds_broken : (b : Broken) → BrokeOff line_of_kind ShortKind Kindly u b → PlateUnread (unread_after 1 b) t
+  kinds_broken (Line n fault) f = bad_kind n (1 + n + 1) fault.left.now f refl
+  kinds_broken Memory f = tt
 
--- why reading stopped, told of the whole text
-pub kinds_unread : (v : Unread) (t u : List ℕ) (s : Setting) → ShortSetting s × (t ≡ line_of_plate s ++ u) → KindsStopped v u 1 → PlateUnread v t
-kinds_unread (Line a) t u s (ss, e) b = bad_kind t u s a ss e b
-kinds_unread Memory t u s h b = tt
+  pub kinds_unread : (w : Unread) → PartUnread line_of_kind ShortKind Kindly u 1 w → PlateUnread w t
+  kinds_unread w (b, f, g) = subst (λ z. PlateUnread z t) (sym g) (kinds_broken b f)
 
-pub rows_unread : (w : Unread) (n : ℕ) (t u v : List ℕ) (s : Setting) (ks : List KindEntry) → n ≡ length ks + 1 → ShortSetting s × (t ≡ line_of_plate s ++ u) → AllByRecursion ShortKind ks → u ≡ kind_lines ks ++ v → (Kindly v → ⊥) → RowsStopped w v n → PlateUnread w t
-rows_unread (Line a) n t u v s ks m (ss, e) sk f ended b = bad_row t u v s ks a ss sk e f ended (subst (λ z. BadRow v z a) m b)
-rows_unread Memory n t u v s ks m h sk f ended b = tt
+  -- u is kind lines, and then v
+  module _ (v : List ℕ) (ks : List KindEntry) (read : LinesRead line_of_kind ShortKind Kindly u ks v) where
+    -- a row line is bad
+    bad_row : (n a : ℕ) (left : List ℕ) → FaultyLine line_of_row ShortRow (λ x. 0 < length x) v n left → a ≡ 1 + length ks + n + 1 → BadLine t a
+    bad_row n a left b line =
+        let front = text_of s ks b.whole in
+        let whole : t ≡ front ++ b.rest = e ∙ ap (λ z. line_of_plate s ++ z) (read.parts ∙ ap (λ z. kind_lines ks ++ z) b.parts) ∙ simp append_assoc in
+        let o : TextOf s ks b.whole front = record { short_setting = ss; short_kinds = read.short; short_rows = b.short; text = refl } in
+        let same : 1 + length ks + length b.whole + 1 ≡ a = omega (arith, b.count, line) in
+        subst (BadLine t) same
+        (bad_after t front b.rest s ks b.whole whole o b.next
+        (λ k w short none g. read.ended (kind_kindly k w v (b.parts ∙ ap (λ z. z ++ b.rest) (no_rows b.whole none) ∙ g)))
+        (λ r w sr g. no_front RowLine (line_code row_form) b.rest left (line_of_row r) w b.stops (r, sr, refl) g))
+      where
+        no_rows : (xs : List RowEntry) → (0 < length xs → ⊥) → row_lines xs ≡ []
+        no_rows [] none = refl
+        no_rows (x ∷ xs) none = absurd (none (omega arith))
+
+    rows_broken : (b : Broken) (before : ℕ) → before ≡ 1 + length ks → BrokeOff line_of_row ShortRow (λ x. 0 < length x) v b → PlateUnread (unread_after before b) t
+    rows_broken (Line n fault) before m f = bad_row n (before + n + 1) fault.left.now f (omega (arith, m))
+    rows_broken Memory before m f = tt
+
+    pub rows_unread : (w : Unread) (before : ℕ) → before ≡ 1 + length ks → PartUnread line_of_row ShortRow (λ x. 0 < length x) v before w → PlateUnread w t
+    rows_unread w before m (b, f, g) = subst (λ z. PlateUnread z t) (sym g) (rows_broken b before m f)
+
+    -- the plate that was read
+    pub read_whole : (rs : List RowEntry) (w : List ℕ) → LinesRead line_of_row ShortRow (λ x. 0 < length x) v rs w → ReadAs s ks rs t
+    read_whole rs w rows =
+        let none : w ≡ [] = nil_from_length w (grind (arith, rows.ended)) in
+        read_as t s ks rs (record {
+          short_setting = ss;
+          short_kinds = read.short;
+          short_rows = rows.short;
+          text = e ∙ ap (λ z. line_of_plate s ++ z) (read.parts ∙ ap (λ z. kind_lines ks ++ z) (rows.parts ∙ ap (λ z. row_lines rs ++ z) none ∙ append-nil (row_lines rs)));
+        })

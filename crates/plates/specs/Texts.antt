@@ -1,6 +1,5 @@
 -- Plate texts, and the first line of a text that is not as it must be.
-use Rattle.std.specs.Prelude.{◌≡◌, ℕ, ◌+◌, ◌⊎◌, List, [], ◌++◌, length}
-use Rattle.std.specs.List.{AllByRecursion}
+use Rattle.std.specs.Prelude.{◌≡◌, ℕ, ◌+◌, ◌⊎◌, List, [], ◌++◌, length, All}
 use Rattle.text.specs.Fields.{lines}
 use Rattle.plates.specs.declared.plate.Setting.{Setting}
 use Rattle.plates.specs.declared.plate.KindEntry.{KindEntry}
@@ -22,8 +21,8 @@ text_of s ks rs = line_of_plate s ++ (kind_lines ks ++ row_lines rs)
 -- t is the text of a plate whose numbers have at most seven digits
 pub record TextOf (s : Setting) (ks : List KindEntry) (rs : List RowEntry) (t : List ℕ) : Type 0 where
   pub short_setting : ShortSetting s
-  pub short_kinds : AllByRecursion ShortKind ks
-  pub short_rows : AllByRecursion ShortRow rs
+  pub short_kinds : All ShortKind ks
+  pub short_rows : All ShortRow rs
   pub text : t ≡ text_of s ks rs
 
 -- t is the text of some plate

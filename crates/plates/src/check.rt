@@ -3,15 +3,13 @@ ghost use Rattle.std.specs.Prelude.{◌≡◌, IfOk, string_bytes};
 ghost use Rattle.plates.specs.Fits.{fitted};
 ghost use Rattle.plates.specs.Checked.{verdict_line, refused_line, Told, Outcome, Checked};
 
-use crate::fit::{fit_all, narrow, wide};
-use crate::plate::{KindEntry, Plate, RowEntry};
+use crate::fit::{narrow, panels_of, rows_of, wide};
+use crate::plate::Plate;
 use crate::read::read_plate;
 use crate::unread::Unread;
 use inspection::inspect::inspect;
 use inspection::verdict::Verdict;
-use layout::panel::Panel;
 use layout::refusal::Refusal;
-use layout::row::Row;
 use std::alloc::{AllocError, Global};
 use text::report::{Report, bad};
 
@@ -36,17 +34,11 @@ fn told(heap: Global, answer: Result<(Verdict, usize), Refusal>) -> Result<Repor
     match answer {
         Ok((verdict, row)) => {
             let printed = verdict_printed(heap, verdict.code(), row)?;
-            Ok(Report {
-                printed,
-                accepted: true,
-            })
+            Ok(Report::accepting(printed))
         }
         Err(refusal) => {
             let printed = refusal_printed(heap, refusal.code())?;
-            Ok(Report {
-                printed,
-                accepted: false,
-            })
+            Ok(Report::refusing(printed))
         }
     }
 }
@@ -55,8 +47,8 @@ fn told(heap: Global, answer: Result<(Verdict, usize), Refusal>) -> Result<Repor
 fn inspected(heap: Global, plate: &Plate) -> Result<Report, AllocError>
     ensures { IfOk result (λ s. Outcome (fitted plate.now.setting plate.now.kinds.items plate.now.rows.items) (string_bytes s.printed) s.accepted) }
 {
-    let kinds = fit_all::<Panel, KindEntry>(heap, plate.kinds.as_slice())?;
-    let rows = fit_all::<Row, RowEntry>(heap, plate.rows.as_slice())?;
+    let kinds = panels_of(heap, plate.kinds.as_slice())?;
+    let rows = rows_of(heap, plate.rows.as_slice())?;
     let setting = plate.setting;
     let answer = inspect(
         wide(setting.length),
@@ -75,15 +67,10 @@ pub fn check_plate(heap: Global, text: &[u8]) -> Result<Report, AllocError>
 {
     match read_plate(heap, text) {
         Ok(plate) => inspected(heap, &plate),
-        Err(unread) => match unread {
-            Unread::Line(line) => {
-                let printed = bad(heap, Refusal::Text, line, 0)?;
-                Ok(Report {
-                    printed,
-                    accepted: false,
-                })
-            }
-            Unread::Memory => Err(AllocError),
-        },
+        Err(Unread::Line(line)) => {
+            let printed = bad(heap, Refusal::Text, line, 0)?;
+            Ok(Report::refusing(printed))
+        }
+        Err(Unread::Memory) => Err(AllocError),
     }
 }

@@ -1,80 +1,65 @@
 // The numbers of a plate text as the fields of an inspected plate hold them. One that is too large for its field counts as the field's largest, which
 // is beyond every limit.
 ghost use Rattle.std.specs.Prelude.{◌≡◌, min, map, IfOk};
-ghost use Rattle.plates.specs.Fits.{flag, fitted_panel, fitted_row};
+ghost use Rattle.plates.specs.Fits.{fitted_panel, fitted_row};
 
 use crate::plate::{KindEntry, RowEntry};
 use layout::panel::Panel;
 use layout::row::Row;
 use std::alloc::{AllocError, Global};
 
-// A number in 16 bits.
+// A number in 16 bits. This function and the next are two, since no bound of std names the greatest number of a type.
 pub(crate) fn wide(number: u32) -> u16
     ensures { result ≡ min number 65535 }
 {
-    number.min(65_535) as u16
+    u16::try_from(number).unwrap_or(u16::MAX)
 }
 
 // A number in 8 bits.
 pub(crate) fn narrow(number: u32) -> u8
     ensures { result ≡ min number 255 }
 {
-    number.min(255) as u8
+    u8::try_from(number).unwrap_or(u8::MAX)
 }
 
-// 1 for yes.
-fn flag_of(is: bool) -> u8
-    ensures { result ≡ flag is }
-{
-    if is { 1 } else { 0 }
-}
+impl From<KindEntry> for Panel {
+    ghost from_gives = { λ k p. p ≡ fitted_panel k };
 
-// An entry of a plate text, and what it is on an inspected plate.
-pub(crate) trait Entry<T> {
-    ghost fitted: { Self → T };
-
-    fn fit(&self) -> T
-        ensures { result ≡ fitted self.now };
-}
-
-impl Entry<Panel> for KindEntry {
-    ghost fitted = { fitted_panel };
-
-    fn fit(&self) -> Panel {
+    fn from(entry: KindEntry) -> Panel {
         Panel {
-            length: wide(self.length),
-            width: wide(self.width),
-            may_turn: self.may_turn,
+            length: wide(entry.length),
+            width: wide(entry.width),
+            may_turn: entry.may_turn,
         }
     }
 }
 
-impl Entry<Row> for RowEntry {
-    ghost fitted = { fitted_row };
+impl From<RowEntry> for Row {
+    ghost from_gives = { λ e r. r ≡ fitted_row e };
 
-    fn fit(&self) -> Row {
+    fn from(entry: RowEntry) -> Row {
         Row {
-            kind: narrow(self.kind),
-            turned: flag_of(self.turned),
-            segment: narrow(self.segment),
-            strip: narrow(self.strip),
-            spare: flag_of(self.spare),
-            x: wide(self.x),
-            y: wide(self.y),
+            kind: narrow(entry.kind),
+            turned: u8::from(entry.turned),
+            segment: narrow(entry.segment),
+            strip: narrow(entry.strip),
+            spare: u8::from(entry.spare),
+            x: wide(entry.x),
+            y: wide(entry.y),
         }
     }
 }
 
-// All entries, in their order.
-pub(crate) fn fit_all<T: Drop, E: Entry<T>>(
-    heap: Global,
-    entries: &[E],
-) -> Result<Vec<T>, AllocError>
-    ensures { IfOk result (λ v. v.items ≡ map E.Entry.fitted entries.now) }
+// The panels of all kind lines, in their order.
+pub(crate) fn panels_of(heap: Global, kinds: &[KindEntry]) -> Result<Vec<Panel>, AllocError>
+    ensures { IfOk result (λ v. v.items ≡ map fitted_panel kinds.now) }
 {
-    let mut all = Vec::new(heap);
-    for entry in entries {
-        all.push(entry.fit())?;
-    }
-    Ok(all)
+    kinds.iter().map(|entry| Panel::from(*entry)).collect(heap)
+}
+
+// The rows of all row lines, in their order. A chain for each type is plainer than one under a bound, which knows only a relation of what `from` gives.
+pub(crate) fn rows_of(heap: Global, rows: &[RowEntry]) -> Result<Vec<Row>, AllocError>
+    ensures { IfOk result (λ v. v.items ≡ map fitted_row rows.now) }
+{
+    rows.iter().map(|entry| Row::from(*entry)).collect(heap)
 }

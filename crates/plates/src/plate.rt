@@ -1,7 +1,7 @@
 // What a plate text says. Its numbers have at most seven digits, and are not yet held to any range.
 
 // The first line: the sides of the plate, the saw width and the stages.
-#[derive(Clone, Copy)]
+#[derive(Clone, Copy, Debug, PartialEq, Eq)]
 pub struct Setting {
     pub length: u32,
     pub width: u32,
@@ -10,7 +10,7 @@ pub struct Setting {
 }
 
 // A kind line: a panel.
-#[derive(Clone, Copy)]
+#[derive(Clone, Copy, Debug, PartialEq, Eq)]
 pub struct KindEntry {
     pub length: u32,
     pub width: u32,
@@ -18,7 +18,7 @@ pub struct KindEntry {
 }
 
 // A row line: a piece.
-#[derive(Clone, Copy)]
+#[derive(Clone, Copy, Debug, PartialEq, Eq)]
 pub struct RowEntry {
     pub kind: u32,
     pub turned: bool,
@@ -29,7 +29,8 @@ pub struct RowEntry {
     pub y: u32,
 }
 
-#[derive(Drop)]
+// The whole text: its first line, its kinds and its rows.
+#[derive(Debug, PartialEq, Eq, Drop)]
 pub struct Plate {
     pub setting: Setting,
     pub kinds: Vec<KindEntry>,

@@ -1,71 +1,28 @@
 // Reads a plate text.
-ghost use Rattle.std.specs.Prelude.{MatchBool, MatchResult};
-ghost use Rattle.plates.specs.Replies.{SettingRead, KindsRead, KindsStopped, RowsRead, RowsStopped, PlateRead, PlateUnread, Room, Kindly};
+ghost use Rattle.std.specs.Prelude.{◌+◌, ◌^◌, ◌<◌, length, MatchResult};
+ghost use Rattle.text.specs.Many.{LinesRead};
+ghost use Rattle.plates.specs.Replies.{PlateRead, PlateUnread, PartUnread};
 
-use crate::lines::{kind_line, plate_line, row_line};
-use crate::plate::{KindEntry, Plate, RowEntry, Setting};
+use crate::lines::plate_line;
+use crate::plate::{KindEntry, Plate, RowEntry};
 use crate::unread::Unread;
 use std::alloc::Global;
+use text::lines::{Broken, Entry, read_lines};
 
-// Whether a text begins as a kind line does.
-fn begins_kind(text: &[u8]) -> bool
-    ensures { MatchBool result (Kindly text.now) (Kindly text.now → ⊥) }
-{
-    match text.split_first() {
-        Some((first, _)) => *first == b'k',
-        None => false,
-    }
-}
-
-// The kind lines at the front of a text, `before` lines having been read.
-fn read_kinds<'a>(
+// The lines of one kind at the front of a text, `before` lines having been read before it. The error is matched, since a closure would have to be told that the sum has
+// room.
+fn read_part<'a, E: Entry>(
     heap: Global,
     text: &'a [u8],
     before: usize,
-) -> Result<(Vec<KindEntry>, &'a [u8]), Unread>
-    requires { Room before text.now }
-    ensures { MatchResult result (λ x. KindsRead text.now x.0 x.1.now) (λ u. KindsStopped u text.now before) }
+) -> Result<(Vec<E>, &'a [u8]), Unread>
+    requires { before + length text.now + 1 < 2 ^ 64 }
+    ensures { MatchResult result (λ x. LinesRead E.line E.Short E.Next text.now x.0.items x.1.now) (λ u. PartUnread E.line E.Short E.Next text.now before u) }
 {
-    let mut kinds = Vec::new(heap);
-    let mut rest = text;
-    while begins_kind(rest) {
-        match kind_line(rest) {
-            Ok((kind, after)) => {
-                kinds.push(kind)?;
-                rest = after;
-            }
-            Err(_) => return Err(Unread::Line(before + kinds.len() + 1)),
-        }
-    }
-    Ok((kinds, rest))
-}
-
-// The row lines that a text consists of, `before` lines having been read.
-fn read_rows(heap: Global, text: &[u8], before: usize) -> Result<Vec<RowEntry>, Unread>
-    requires { Room before text.now }
-    ensures { MatchResult result (λ rows. RowsRead text.now rows) (λ u. RowsStopped u text.now before) }
-{
-    let mut rows = Vec::new(heap);
-    let mut rest = text;
-    while !rest.is_empty() {
-        match row_line(rest) {
-            Ok((row, after)) => {
-                rows.push(row)?;
-                rest = after;
-            }
-            Err(_) => return Err(Unread::Line(before + rows.len() + 1)),
-        }
-    }
-    Ok(rows)
-}
-
-// The first line.
-fn first_line<'a>(text: &'a [u8]) -> Result<(Setting, &'a [u8]), Unread>
-    ensures { MatchResult result (λ x. SettingRead text.now x.0 x.1.now) (λ u. PlateUnread u text.now) }
-{
-    match plate_line(text) {
-        Ok((setting, rest)) => Ok((setting, rest)),
-        Err(_) => Err(Unread::Line(1)),
+    match read_lines(heap, text) {
+        Ok(part) => Ok(part),
+        Err(Broken::Line(lines, _)) => Err(Unread::Line(before + lines + 1)),
+        Err(Broken::Memory) => Err(Unread::Memory),
     }
 }
 
@@ -73,12 +30,9 @@ fn first_line<'a>(text: &'a [u8]) -> Result<(Setting, &'a [u8]), Unread>
 pub fn read_plate(heap: Global, text: &[u8]) -> Result<Plate, Unread>
     ensures { MatchResult result (λ p. PlateRead p text.now) (λ u. PlateUnread u text.now) }
 {
-    let (setting, rest) = match first_line(text) {
-        Ok((setting, rest)) => (setting, rest),
-        Err(unread) => return Err(unread),
-    };
-    let (kinds, rest) = read_kinds(heap, rest, 1)?;
-    let rows = read_rows(heap, rest, kinds.len() + 1)?;
+    let (setting, rest) = plate_line(text).map_err(|_| Unread::Line(1))?;
+    let (kinds, rest) = read_part::<KindEntry>(heap, rest, 1)?;
+    let (rows, _) = read_part::<RowEntry>(heap, rest, 1 + kinds.len())?;
     Ok(Plate {
         setting,
         kinds,

@@ -4,7 +4,7 @@ ghost use Rattle.plates.specs.declared.unread.Unread.TheVariants.{Memory as Unre
 
 use std::alloc::AllocFailed;
 
-#[derive(Clone, Copy)]
+#[derive(Clone, Copy, Debug, PartialEq, Eq)]
 pub enum Unread {
     // the first line that is not as it must be, counted from 1
     Line(usize),

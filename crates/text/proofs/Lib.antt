@@ -1,6 +1,6 @@
 pub mod Codes
 pub mod Numerals
 mod Words
-mod Lines
 pub mod Parts
 pub mod Many
+pub mod Forms

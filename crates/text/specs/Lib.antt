@@ -2,4 +2,4 @@ pub mod Texts
 pub mod Fields
 pub mod Places
 pub mod Bad
-pub mod Steps
+pub mod Many

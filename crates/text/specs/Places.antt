@@ -1,5 +1,5 @@
 -- The place just past some bytes: line and column, counted from 1.
-use Rattle.std.specs.Prelude.{ℕ, ◌+◌, Bool, cond, not, List, count_by, ◌==◌}
+use Rattle.std.specs.Prelude.{ℕ, ◌+◌, Bool, not, List, count_by, ◌==◌}
 use Rattle.std.specs.List.{suffix_len}
 
 -- whether a byte ends a line
@@ -13,11 +13,3 @@ line_after before = 1 + count_by ends_line before
 -- one more than the bytes since the last line ended
 abbrev pub column_after : List ℕ → ℕ
 column_after before = 1 + suffix_len (λ b. not (ends_line b)) before
-
--- how the line goes on with one byte more
-abbrev pub next_line : ℕ → ℕ → ℕ
-next_line line byte = cond (ends_line byte) (line + 1) line
-
--- and the column
-abbrev pub next_column : ℕ → ℕ → ℕ
-next_column column byte = cond (ends_line byte) 1 (column + 1)

@@ -1,35 +1,52 @@
 // The fields of a line. A reader takes the text that is left; it answers a value and the text after the field, or, as its error, the text from the
 // first byte at fault on.
-ghost use Rattle.std.specs.Prelude.{◌≡◌, true, false, ◌∷◌, ◌++◌, decimal, MatchBool, MatchResult};
+ghost use Rattle.std.specs.Prelude.{◌≡◌, ◌∷◌, ◌++◌, decimal, MatchBool, MatchResult};
 ghost use Rattle.text.specs.Fields.{mark, letter, SevenDigits, Word, Number, Letter, Choice, More};
 ghost use Rattle.text.specs.Texts.{Stops};
 
 // A fault in a text: what is left of the text from the first byte at fault on.
-#[derive(Clone, Copy)]
+#[derive(Clone, Copy, Debug, PartialEq, Eq)]
 pub struct Fault<'a> {
     pub left: &'a [u8],
 }
 
 // What stands after a field.
-#[derive(Clone, Copy)]
+#[derive(Clone, Copy, Debug, PartialEq, Eq)]
 pub enum End {
     Blank,
     Line,
 }
 
 // What a field of one letter says: `n` or `t`, and `k` or `s`.
-#[derive(Clone, Copy)]
+#[derive(Clone, Copy, Debug, PartialEq, Eq)]
 pub enum Letters {
     Turn,
     Spare,
 }
 
-fn mark_of(end: End) -> u8
-    ensures { result ≡ mark end }
-{
-    match end {
-        End::Blank => b' ',
-        End::Line => b'\n',
+impl End {
+    // The byte that stands there.
+    fn byte(self) -> u8
+        ensures { result ≡ mark self }
+    {
+        match self {
+            End::Blank => b' ',
+            End::Line => b'\n',
+        }
+    }
+}
+
+impl Letters {
+    // The letter for no or for yes.
+    fn byte(self, yes: bool) -> u8
+        ensures { result ≡ letter self yes }
+    {
+        match (self, yes) {
+            (Letters::Turn, false) => b'n',
+            (Letters::Turn, true) => b't',
+            (Letters::Spare, false) => b'k',
+            (Letters::Spare, true) => b's',
+        }
     }
 }
 
@@ -65,7 +82,7 @@ fn goes_on(value: u32, digits: u8, byte: u8) -> bool
 pub fn number<'a>(text: &'a [u8], end: End) -> Result<(u32, &'a [u8]), Fault<'a>>
     ensures { MatchResult result (λ x. SevenDigits x.0 × (text.now ≡ decimal x.0 ++ mark end ∷ x.1.now)) (λ f. Stops (Number (mark end)) text.now f.left.now) }
 {
-    let last = mark_of(end);
+    let last = end.byte();
     let mut value = 0u32;
     let mut digits = 0u8;
     let mut left = text;
@@ -83,27 +100,16 @@ pub fn number<'a>(text: &'a [u8], end: End) -> Result<(u32, &'a [u8]), Fault<'a>
     Err(Fault { left })
 }
 
-// The two letters of a choice: for no, and for yes.
-fn letters_of(letters: Letters) -> (u8, u8)
-    ensures { (result.0 ≡ letter letters false) × (result.1 ≡ letter letters true) }
-{
-    match letters {
-        Letters::Turn => (b'n', b't'),
-        Letters::Spare => (b'k', b's'),
-    }
-}
-
 // One of two letters.
 fn one_letter<'a>(text: &'a [u8], letters: Letters) -> Result<(bool, &'a [u8]), Fault<'a>>
     ensures { MatchResult result (λ x. text.now ≡ letter letters x.0 ∷ x.1.now) (λ f. Stops (Letter letters) text.now f.left.now) }
 {
-    let (no, yes) = letters_of(letters);
     let Some((first, rest)) = text.split_first() else {
         return Err(Fault { left: text });
     };
-    if *first == yes {
+    if *first == letters.byte(true) {
         Ok((true, rest))
-    } else if *first == no {
+    } else if *first == letters.byte(false) {
         Ok((false, rest))
     } else {
         Err(Fault { left: text })
@@ -115,6 +121,6 @@ pub fn choice<'a>(text: &'a [u8], letters: Letters, end: End) -> Result<(bool, &
     ensures { MatchResult result (λ x. text.now ≡ letter letters x.0 ∷ (mark end ∷ x.1.now)) (λ f. Stops (Choice letters (mark end)) text.now f.left.now) }
 {
     let (chosen, rest) = one_letter(text, letters)?;
-    let after = word(rest, &[mark_of(end)])?;
+    let after = word(rest, &[end.byte()])?;
     Ok((chosen, after))
 }

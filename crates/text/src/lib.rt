@@ -2,6 +2,7 @@
 #![tactic(auto)]
 
 pub mod fields;
+pub mod lines;
 pub mod place;
 pub mod report;
 pub mod stop;

@@ -1,32 +1,20 @@
 // Places in a text.
-ghost use Rattle.std.specs.Prelude.{◌≡◌};
-ghost use Rattle.text.specs.Places.{line_after, column_after, next_line, next_column};
-ghost use Rattle.text.specs.Steps.{Small};
+ghost use Rattle.std.specs.Prelude.{◌≡◌, ◌+◌, ◌≤◌, length};
+ghost use Rattle.text.specs.Places.{line_after, column_after};
 
 // A line and a column, both counted from 1. A byte 10 belongs to the line that it ends.
-#[derive(Clone, Copy)]
+#[derive(Clone, Copy, Debug, PartialEq, Eq)]
 pub struct Place {
     pub line: usize,
     pub column: usize,
 }
 
-// The place after one byte more.
-fn next_place(place: Place, byte: u8) -> Place
-    requires { Small place }
-    ensures line { result.line ≡ next_line place.line byte }
-    ensures column { result.column ≡ next_column place.column byte }
+// How many bytes stand after the last byte 10.
+fn bytes_of_line(before: &[u8]) -> usize
+    ensures column { 1 + result ≡ column_after before.now }
+    ensures within { result ≤ length before.now }
 {
-    if byte == b'\n' {
-        Place {
-            line: place.line + 1,
-            column: 1,
-        }
-    } else {
-        Place {
-            line: place.line,
-            column: place.column + 1,
-        }
-    }
+    before.iter().rev().take_while(|b| **b != b'\n').count()
 }
 
 // The place just past `before`.
@@ -34,9 +22,8 @@ pub fn place_after(before: &[u8]) -> Place
     ensures line { result.line ≡ line_after before.now }
     ensures column { result.column ≡ column_after before.now }
 {
-    let mut place = Place { line: 1, column: 1 };
-    for byte in before {
-        place = next_place(place, *byte);
+    Place {
+        line: 1 + before.iter().filter(|b| **b == b'\n').count(),
+        column: 1 + bytes_of_line(before),
     }
-    place
 }

@@ -10,14 +10,14 @@ returns-then-byte-last c = (
   read_small _ _ _ _ c.loop-byte.invariant,
   c.loop-byte.invariant.parts
       ∙ ap (λ z. z ++ c.loop-byte.left.now) (written_some c.loop-byte.digits c.loop-byte.value c.if-digits-gt0.true)
-      ∙ ap (λ z. decimal c.loop-byte.value ++ z) (c.in-Some.ensures.cases.0 ∙ ap (λ (z : ℕ). z ∷ c.in-Some.tail.now) (c.if-byte-last.true ∙ c.mark_of-last.ensures)),
+      ∙ ap (λ z. decimal c.loop-byte.value ++ z) (c.in-Some.ensures.cases.0 ∙ ap (λ (z : ℕ). z ∷ c.in-Some.tail.now) (c.if-byte-last.true ∙ c.byte-last.ensures)),
 )
 
 pub returns-then-not-goes_on : goal.returns-then-not-goes_on
 returns-then-not-goes_on c =
     let unmarked : 0 < c.loop-byte.digits → c.in-Some.byte.now ≡ mark c.args.end → ⊥
     = elim c.else-digits-gt0.branch [
-      | else-digits-gt0-via-then-digits-gt0+else-byte-last w ↦ λ _ e. w.if-byte-last.false (e ∙ sym c.mark_of-last.ensures)
+      | else-digits-gt0-via-then-digits-gt0+else-byte-last w ↦ λ _ e. w.if-byte-last.false (e ∙ sym c.byte-last.ensures)
       | else-digits-gt0-via-else-digits-gt0 w ↦ λ h _. omega (arith, h, w.if-digits-gt0.false)
     ] in
     number_stops (mark c.args.end) c.loop-byte.digits c.loop-byte.value c.args.text.now c.loop-byte.left.now c.loop-byte.invariant

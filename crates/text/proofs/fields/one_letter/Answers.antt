@@ -6,7 +6,7 @@ use Rattle.text.proofs.fields.one_letter.Goals as goal
 pub returns-in_default : goal.returns-in_default
 returns-in_default c = letter_stops c.args.letters c.args.text.now (λ b more e. absurd (nil_not_cons c.args.text.now b more c.in_default.ensures.cases e))
 
-pub returns-else-first-no : goal.returns-else-first-no
-returns-else-first-no c = letter_stops c.args.letters c.args.text.now (λ b more e.
+pub returns-else-first-byte-2 : goal.returns-else-first-byte-2
+returns-else-first-byte-2 c = letter_stops c.args.letters c.args.text.now (λ b more e.
     let f = head_same c.in-Some.first.now b c.in-Some.rest.now more (sym c.in-Some.ensures.cases.0 ∙ e) in
-    (λ g. c.if-first-yes.false (f ∙ g ∙ sym c.letters_of-no.ensures.1), λ g. c.if-first-no.false (f ∙ g ∙ sym c.letters_of-no.ensures.0)))
+    (λ g. c.if-first-byte.false (f ∙ g ∙ sym c.byte.ensures), λ g. c.if-first-byte-2.false (f ∙ g ∙ sym c.byte-else-first-byte.ensures)))
