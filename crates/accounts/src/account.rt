@@ -9,7 +9,8 @@ use layout::table::Table;
 
 mod counting;
 
-// No account outside its limits can exist, and none where more of a kind is counted than was ordered.
+// No account outside its limits can exist, and none where more of a kind is counted than was ordered. No equality is derived, since unused places of the tables
+// would count.
 #[derive(Clone, Copy)]
 pub struct Account {
     // two tables and not one of pairs, since a caller sees each of them as a slice

@@ -19,7 +19,7 @@ fn is_inside(o: &Oriented, length: u16, width: u16) -> bool
     o.along <= length && o.across <= width
 }
 
-// A kind in one of its turns.
+// A kind in one of its turns; a turn is that of a row, so a number.
 fn oriented(kind: &Kind, number: u8, turned: u8) -> Oriented
     ensures { result ≡ in_turn number turned kind.now }
 {

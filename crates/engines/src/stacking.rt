@@ -16,7 +16,7 @@ use choosing::Candidate;
 use layout::row::Row;
 
 // How many rows were written, and what they are worth.
-#[derive(Clone, Copy)]
+#[derive(Clone, Copy, Debug, PartialEq, Eq)]
 pub(crate) struct Laid {
     pub(crate) rows: usize,
     pub(crate) worth: u64,

@@ -8,7 +8,7 @@ use layout::panel::Panel;
 use layout::rect::{Rect, Span};
 use layout::row::Row;
 
-// The direction of the plate that the cuts of a stage divide.
+// The direction of the plate that the cuts of a stage divide. One `match` takes it apart, in `view`, and all else speaks of what is seen.
 #[derive(Clone, Copy, Debug, PartialEq, Eq)]
 pub(crate) enum Direction {
     Length,

@@ -26,14 +26,14 @@ pub struct Panel {
 }
 
 impl Panel {
-    // The size of a piece along the plate's length. Every number above 0 means turned.
+    // The size of a piece along the plate's length. The turn is a number, since rows may bring any; every number above 0 means turned.
     pub fn along_size(self, turned: u8) -> u16
         ensures { result ≡ along self turned }
     {
         if turned == 0 { self.length } else { self.width }
     }
 
-    // The size of a piece along the plate's width.
+    // The size of a piece along the plate's width, for the same turns.
     pub fn across_size(self, turned: u8) -> u16
         ensures { result ≡ across self turned }
     {
@@ -95,7 +95,7 @@ impl Kind {
     }
 }
 
-// What stands in the places of an array that have no kind.
+// No kind: no size, no value, not wanted. It is the default too.
 pub const NO_KIND: Kind = Kind {
     panel: Panel {
         length: 0,

@@ -14,7 +14,7 @@ pub struct Table<T, const N: usize> {
     ghost full: { size places ≡ N },
 }
 
-// Written out, since a derive does not serve a generic struct with ghost fields.
+// Written out, since a derive of `Clone` does not serve a generic struct with ghost fields.
 impl<T: Copy, const N: usize> Clone for Table<T, N> {
     ghost is_clone = { λ t copy. copy ≡ t };
 

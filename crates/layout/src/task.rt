@@ -9,7 +9,8 @@ use crate::table::Table;
 mod making;
 mod varying;
 
-// No task outside the limits can exist: each place where one is made has to prove the ghost fields.
+// No task outside the limits can exist: each place where one is made has to prove the ghost fields. No equality is derived, since the unused places of the table
+// would count.
 #[derive(Clone, Copy)]
 pub struct Task {
     length: u16,

@@ -9,6 +9,7 @@ use layout::refusal::Refusal;
 use layout::row::{BLANK, Row};
 use layout::task::Task;
 
+// Nothing compares layers, so no equality is derived.
 #[derive(Drop)]
 pub struct BetterOfTwo<F, S> {
     first: F,

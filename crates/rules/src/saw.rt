@@ -16,6 +16,7 @@ pub const GREATEST_SAW: u16 = 20;
 
 // The constructor lets through only a width within the reach below. No field can state that, since it speaks of the rule below; so the layer means
 // the width as far as that reach goes, which is the width itself. That it is at most 20 is known of every such layer.
+// Nothing compares layers, so no equality is derived.
 #[derive(Drop)]
 pub struct SawWidth<R> {
     width: u16,

@@ -16,7 +16,7 @@ use layout::task::Task;
 pub const GREATEST_TRIM: u16 = 100;
 
 // The corner of a row moved by so much in x and y.
-#[derive(Clone, Copy)]
+#[derive(Clone, Copy, Debug, PartialEq, Eq)]
 struct Shift(u16);
 
 impl Change<Row> for Shift {
@@ -31,6 +31,7 @@ impl Change<Row> for Shift {
     }
 }
 
+// Nothing compares layers, so no equality is derived.
 #[derive(Drop)]
 pub struct Trimming<R> {
     trim: u16,

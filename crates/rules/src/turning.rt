@@ -11,7 +11,7 @@ use layout::row::Row;
 use layout::task::Task;
 
 // The corner of a row with x and y exchanged.
-#[derive(Clone, Copy)]
+#[derive(Clone, Copy, Debug, PartialEq, Eq)]
 struct Exchange;
 
 impl Change<Row> for Exchange {
@@ -28,6 +28,7 @@ impl Change<Row> for Exchange {
 
 // Turning, trimming and the saw layer are three rules, and not one over a trait of changes: task, rows, reach, stages and saw width each change in
 // another way, so that trait would have as many members as `Rule`. What they share is `change_first`, `ask_admitted` and the lemma `layer_laws`.
+// Nothing compares layers, so no equality is derived.
 #[derive(Drop)]
 pub struct Turning<R> {
     below: R,

@@ -25,7 +25,7 @@ pub enum Letters {
 }
 
 impl End {
-    // The byte that stands there.
+    // The byte that stands there: a mark, and no number of the case.
     fn byte(self) -> u8
         ensures { result ≡ mark self }
     {
@@ -37,7 +37,7 @@ impl End {
 }
 
 impl Letters {
-    // The letter for no or for yes.
+    // The letter for no or for yes: a mark, and no number of the case.
     fn byte(self, yes: bool) -> u8
         ensures { result ≡ letter self yes }
     {

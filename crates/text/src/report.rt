@@ -7,7 +7,7 @@ use layout::refusal::Refusal;
 use std::alloc::{AllocError, Global};
 
 // All bytes to be printed, and whether what was read is accepted: both cases print, and a contract speaks of the two members.
-#[derive(Debug, Drop)]
+#[derive(Debug, PartialEq, Eq, Drop)]
 pub struct Report {
     pub printed: String,
     pub accepted: bool,

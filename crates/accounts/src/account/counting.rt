@@ -56,7 +56,7 @@ fn is_kept(row: Row) -> bool
     row.spare == 0
 }
 
-// How many rows of each kind are kept, by the kind's number.
+// How many rows of each kind are kept, by the kind's number: `as` loses nothing of it, and the number is the place.
 fn tally(rows: &[Row]) -> [u16; MOST_KINDS]
     requires known { EachRow (λ row. row.kind < 32) rows.now }
     requires few { size rows.now ≤ 4096 }

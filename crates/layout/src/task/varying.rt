@@ -11,7 +11,7 @@ use crate::panel::{GREATEST_SIDE, Kind};
 use crate::task::Task;
 
 // The sides of a kind exchanged.
-#[derive(Clone, Copy)]
+#[derive(Clone, Copy, Debug, PartialEq, Eq)]
 struct Exchange;
 
 impl Change<Kind> for Exchange {
@@ -24,7 +24,7 @@ impl Change<Kind> for Exchange {
 }
 
 // So much added to both sides of a kind.
-#[derive(Clone, Copy)]
+#[derive(Clone, Copy, Debug, PartialEq, Eq)]
 struct Widen(u16);
 
 impl Change<Kind> for Widen {
