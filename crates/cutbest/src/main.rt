@@ -50,11 +50,17 @@ fn print_row(rt: HostRuntime, row: &Row) -> io::Result<()> {
     )
 }
 
-fn print_best<R: Rule>(rt: HostRuntime, name: &str, rule: &R, task: &Task) -> io::Result<()> {
-    let mut work = [1; WORDS];
-    let mut rows = [BLANK; ROWS];
+// Work memory and rows are lent, so that both rules have the same.
+fn print_best<R: Rule>(
+    rt: HostRuntime,
+    name: &str,
+    rule: &R,
+    task: &Task,
+    work: &mut [u64],
+    rows: &mut [Row],
+) -> io::Result<()> {
     let best = rule
-        .best(task, &mut work, &mut rows)
+        .best(task, work, rows)
         .map_err(|_| io::Error::other("the task is beyond the reach"))?;
     println!(rt; "{} worth {} rows {}", name, best.worth, best.rows)?;
     for row in rows.iter().take(usize::from(best.rows)) {
@@ -73,6 +79,15 @@ fn main(rt: HostRuntime) -> io::Result<()> {
     let task = task_of(&order).ok_or_else(|| io::Error::other(
         "the order is beyond the limits of a task",
     ))?;
-    print_best(rt, "two-staged", &TwoStaged, &task)?;
-    print_best(rt, "three-staged", &ThreeStaged, &task)
+    let mut work = [1; WORDS];
+    let mut rows = [BLANK; ROWS];
+    print_best(rt, "two-staged", &TwoStaged, &task, &mut work, &mut rows)?;
+    print_best(
+        rt,
+        "three-staged",
+        &ThreeStaged,
+        &task,
+        &mut work,
+        &mut rows,
+    )
 }

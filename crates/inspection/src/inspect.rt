@@ -1,5 +1,5 @@
 // Inspection of a plate.
-ghost use Rattle.std.specs.Prelude.{◌≡◌, ◌↔◌, length as size, IsTrue, IfOk, MatchBool, MatchOption};
+ghost use Rattle.std.specs.Prelude.{◌≡◌, ◌↔◌, [], length as size, IsTrue, IfOk, MatchBool, MatchOption};
 ghost use Rattle.layout.specs.Refusals.{Answered};
 ghost use Rattle.inspection.specs.Soundness.{plate_in, Sound, AllSound, HasPlaces};
 ghost use Rattle.inspection.specs.Verdicts.{Faulty, Finding, FirstFaulty, PlateApart, InspectCause, number_of, plate_of};
@@ -50,26 +50,27 @@ impl LawfulPlate<'_> {
         None
     }
 
-    // The places of the pieces, in the order of the rows.
+    // Puts the places of the pieces, in the order of the rows, into an empty list. The list is lent: handed back by value it would be copied, all its 64 KiB.
     #[tactic(auto, using(crate::proofs::Judging::row_places))]
-    fn places(&self) -> ArrayVec<Rect, MOST_ROWS>
+    fn put_places(&self, places: &mut ArrayVec<Rect, MOST_ROWS>)
         requires sound { AllSound (plate_in self.now) }
-        ensures many { size result.items ≡ size self.now.rows.now }
-        ensures there { HasPlaces (plate_in self.now) result.items (size self.now.rows.now) }
+        requires empty { places.old.items ≡ [] }
+        ensures many { size places.new.items ≡ size self.now.rows.now }
+        ensures there { HasPlaces (plate_in self.now) places.new.items (size self.now.rows.now) }
     {
-        let mut places = ArrayVec::new();
         for row in self.rows {
             places.push(place(self.kinds, *row));
         }
-        places
     }
 
-    // Whether the plate comes apart, whichever direction comes first.
+    // Whether the plate comes apart, whichever direction comes first. Not inlined: only what is inspected needs the stack for the places.
+    #[inline(never)]
     fn comes_apart(&self) -> bool
         requires sound { AllSound (plate_in self.now) }
         ensures { IsTrue result ↔ PlateApart (plate_in self.now) }
     {
-        let places = self.places();
+        let mut places = ArrayVec::new();
+        self.put_places(&mut places);
         let cutting = Cutting {
             places: places.as_slice(),
             saw: u32::from(self.saw),
