@@ -5,12 +5,28 @@ use Rattle.std.proofs.lemmas.Slice.Zip.{length-zip, get_or-zip}
 use Rattle.std.specs.List.{zip}
 use native.Mathlib.Decide.{dec_lt}
 use Rattle.accounts.specs.declared.account.Account.{Account}
-use Rattle.accounts.specs.Accounts.{Book, LawfulBook, Summed, sum_at}
+use Rattle.layout.specs.declared.refusal.Refusal.{Refusal}
+use Rattle.layout.specs.declared.row.Row.{Row}
+use Rattle.layout.specs.Refusals.{RefusedBy, code_of}
+use Rattle.accounts.specs.Accounts.{Book, LawfulBook, Summed, sum_at, RowsCause, CountCause}
 use Rattle.accounts.specs.Books.{book}
 
 -- every account keeps to the limits
 pub lawful_book : (a : Account) → LawfulBook (book a)
 lawful_book a = record { few = omega (arith, length-take a.ordered.used a.ordered.places, a.ordered.few); many = a.many; numbers = a.numbers; bounded = a.bounded }
+
+-- a refusal of the rows is one of the count
+pub rows_refused : (b : Book) (rows : List Row) (runs : ℕ) (e : Refusal) → RefusedBy (RowsCause (size b.ordered) rows runs) e → RefusedBy (CountCause b rows runs) e
+rows_refused b rows runs e h = record { holds = inl h.holds; smallest = λ c lt o. smaller c lt o }
+  where
+    early : RowsCause (size b.ordered) rows runs (code_of e) → code_of e ≤ 5
+    early (inl o) = omega (arith, o.0)
+    early (inr (inl o)) = omega (arith, o.0)
+    early (inr (inr o)) = omega (arith, o.0)
+
+    smaller : (c : ℕ) → c < code_of e → CountCause b rows runs c → ⊥
+    smaller c lt (inl o) = h.smallest c lt o
+    smaller c lt (inr o) = omega (arith, o.0, early h.holds)
 
 -- the numbers at one place of three lists
 pub at_place : (counted tallies ordered : List ℕ) (n c t o : ℕ) → n < size (zip (zip counted tallies) ordered) → ((c, t), o) ≡ get_or (zip (zip counted tallies) ordered) n ((c, t), o) → (n < size ordered) × (c ≡ get_or counted n 0) × (t ≡ get_or tallies n 0) × (o ≡ get_or ordered n 0)

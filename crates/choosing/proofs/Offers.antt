@@ -12,7 +12,7 @@ use Rattle.choosing.proofs.Choosing.{Sound, right_best}
 use Rattle.choosing.proofs.Filling.{size_read, worth_read}
 
 module _ {W : Type 0} {s : Scale W} {within : ℕ → W → Type 0} (limits : Limits s within) (p : ℕ) (cands : List (Candidate W)) (fair : Fair s within p cands) where
-  fair_sound : Sound s cands
+  pub fair_sound : Sound s cands
   fair_sound = record { room = λ k h. omega (arith, fair.room k h); value = fair.value }
 
   few_by_size : (ks : List ℕ) → Known cands ks → 50 * length ks ≤ total_size cands ks
@@ -36,7 +36,7 @@ module _ {W : Type 0} {s : Scale W} {within : ℕ → W → Type 0} (limits : Li
       let r = right_best laws cands fair_sound cap cap (omega arith) in
       subst (within (p * 64)) (sym r.worth_is) (feasible_within cap (first s cands cap).order small r.feasible)
 
-  offer_within : Laws s → p ≤ 64 → (cap k : ℕ) → k < length cands → size_at cands k ≤ cap → cap ≤ 3200 → within 4096 (s.plus (worth_at s cands k) (most s cands (cap - size_at cands k)))
+  pub offer_within : Laws s → p ≤ 64 → (cap k : ℕ) → k < length cands → size_at cands k ≤ cap → cap ≤ 3200 → within 4096 (s.plus (worth_at s cands k) (most s cands (cap - size_at cands k)))
   offer_within laws few cap k known fits small =
       let left : ℕ = cap - size_at cands k in
       let r = right_best laws cands fair_sound left left (omega arith) in

@@ -43,12 +43,12 @@ module _ (l w : ℕ) (os : List Oriented) (stock : Stock l w os) (f : Filled) wh
 
   -- ---- the strips of a segment
 
-  strips_known : AllByRecursion (λ (k : ℕ). k < length os) (first plain (map by_across (map (strip_of f l os) os)) w).order
+  pub strips_known : AllByRecursion (λ (k : ℕ). k < length os) (first plain (map by_across (map (strip_of f l os) os)) w).order
   strips_known =
       let cands : List (Candidate ℕ) = map by_across (map (strip_of f l os) os) in
       known_all cands os (first plain cands w).order (omega (arith, length-map (map (strip_of f l os) os) by_across, length-map os (strip_of f l os))) (right_best plain_laws cands (all_sound cands (strips_fine_of l w os stock f)) w w (omega arith)).feasible.known
 
-  strips_are : (stack plain w (map (strip_of f l os) os)).strips ≡ map (strip_of f l os) (strips_of f l w os)
+  pub strips_are : (stack plain w (map (strip_of f l os) os)).strips ≡ map (strip_of f l os) (strips_of f l w os)
   strips_are = at_map (strip_of f l os) no_piece (no_strip plain) os (first plain (map by_across (map (strip_of f l os) os)) w).order strips_known
 
   -- what is known of the numbers whose strips are chosen

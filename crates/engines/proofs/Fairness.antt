@@ -22,7 +22,7 @@ use Rattle.engines.proofs.Holding.{all_count, all_held, stock_sizeable}
 abbrev pub Few : ℕ → Candidate ℕ → Type 0
 Few p c = (50 ≤ c.size) × (1 ≤ c.worth) × (c.worth ≤ 1_000_000 * p)
 
-few_fair : (p : ℕ) (cands : List (Candidate ℕ)) → AllByRecursion (Few p) cands → Fair plain PlainWithin p cands
+pub few_fair : (p : ℕ) (cands : List (Candidate ℕ)) → AllByRecursion (Few p) cands → Fair plain PlainWithin p cands
 few_fair p cands ok = record { room = λ k h. (at cands ok k h).0; value = λ k h. lt-ltb 0 (worth_at plain cands k) (at cands ok k h).1; few = λ k h. (at cands ok k h).2 }
   where
     at : (cs : List (Candidate ℕ)) → AllByRecursion (Few p) cs → (k : ℕ) → k < length cs → (50 ≤ size_at cs k) × (1 ≤ worth_at plain cs k) × (worth_at plain cs k ≤ 1_000_000 * p)

@@ -30,16 +30,28 @@ module _ (l w : ℕ) (os : List Oriented) (stock : Stock l w os) where
   pub held_is : (k : ℕ) → filter (inside k w) os ≡ no_longer k os
   held_is k = kept_same (inside k w) (λ (o : Oriented). leb o.along k) os (all_each (λ o c. ap (λ b. leb o.along k && b) (le-leb o.across w c.across_most) ∙ and_true (leb o.along k)) os all_count)
 
-  -- the numbers that a shorter segment holds
-  pub held_stock : (k : ℕ) → k ≤ l → Stock k w (no_longer k os)
-  held_stock k le =
+  -- the numbers that a segment of another length holds
+  pub held_stock : (k : ℕ) → k ≤ 3200 → Stock k w (no_longer k os)
+  held_stock k small =
       record {
         few = omega (arith, stock.few, length-filter (λ (o : Oriented). leb o.along k) os, count_by-le-length (λ (o : Oriented). leb o.along k) os);
-        along_most = omega (arith, stock.along_most);
+        along_most = small;
         across_most = stock.across_most;
         each =
             All-from_recursion (Counts k w) (no_longer k os)
             (all_each (λ o c. record { along_least = c.0.along_least; across_least = c.0.across_least; value_least = c.0.value_least; value_most = c.0.value_most; along_most = c.1; across_most = c.0.across_most }) (no_longer k os) (all_no_longer (Counts l w) k os all_count));
+      }
+
+  -- and all are numbers of a longer one
+  pub longer_stock : (k : ℕ) → l ≤ k → k ≤ 3200 → Stock k w os
+  longer_stock k le small =
+      record {
+        few = stock.few;
+        along_most = small;
+        across_most = stock.across_most;
+        each =
+            All-from_recursion (Counts k w) os
+            (all_each (λ o c. record { along_least = c.along_least; across_least = c.across_least; value_least = c.value_least; value_most = c.value_most; along_most = omega (arith, c.along_most); across_most = c.across_most }) os all_count);
       }
 
   -- all of them, where the segment is as long as they may be

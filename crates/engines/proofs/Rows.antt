@@ -11,7 +11,7 @@ use Rattle.engines.specs.Fillings.{Filled, strip_of}
 use Rattle.engines.specs.Writing.{corner_above, strip_rows}
 use Rattle.engines.proofs.Chosen.{strip_across}
 
-length_strip : (g n y x : ℕ) (os : List Oriented) → length (rows_of_strip g n y x os) ≡ length os
+pub length_strip : (g n y x : ℕ) (os : List Oriented) → length (rows_of_strip g n y x os) ≡ length os
 length_strip g n y x [] = refl
 length_strip g n y x (o ∷ os) = ap suc (length_strip g n y (x + o.along) os)
 

@@ -61,14 +61,14 @@ module _ (m : Model) (ok : WithinLimits m) where
   three_few = three_staged_few (shape m) ok.plate.0 ok.plate.1 (sizes m ok) (three_staged_pattern by_value m) (three_staged_member m ok)
 
   -- both segments are the named pattern
-  sides_are : left_rows place ++ right_rows place (length (left_rows place)) ≡ three_staged_pattern by_value m
+  pub sides_are : left_rows place ++ right_rows place (length (left_rows place)) ≡ three_staged_pattern by_value m
   sides_are =
       side_is m place (segment_at by_value m place).strips (segment_at by_value m (m.length - place)).strips
       (all_each (λ st x. x.0) (segment_at by_value m place).strips (three_chosen m ok place).each)
 
   module _ (few : length (numbers m) ≤ 64) where
     -- a segment has at most 4,096 pieces
-    pub segment_small : (l : ℕ) → l ≤ m.length → uniform_worth l m.width (numbers m) ≤ 1_000_000_000_000
+    pub segment_small : (l : ℕ) → l ≤ 3200 → uniform_worth l m.width (numbers m) ≤ 1_000_000_000_000
     segment_small l small =
         omega (arith, most_within plain_limits 64 (uniform_strips l (numbers m)) (strips_fair l m.width (no_longer l (numbers m)) (held_stock m.length m.width (numbers m) (task_stock m ok few) l small) OfOne) plain_laws m.width ok.plate.1)
 

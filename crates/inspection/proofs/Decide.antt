@@ -42,6 +42,10 @@ cut_off {g} {ps} {s} {R} U z le fst a b =
     at_high : Clear g ps (after U.from R) (U.to + g)
     at_high i h = elim (fst i (omega arith)) [ inl w ↦ inl (omega arith) | inr e ↦ inr e ]
 
+-- a piece is solid
+pub piece_solid : (g : ℕ) (ps : Pieces) (R : Rect) (i : ℕ) → Holds ps R i → Solid g ps (slice (ps.place i).along R)
+piece_solid g ps R i h p c = c i (omega arith)
+
 -- A solid slice grows by a piece that begins before a cut right after the slice would end, and is solid again.
 pub solid_grows : (g : ℕ) (ps : Pieces) (R : Rect) (U : Span) (i : ℕ) → Solid g ps (slice U R) → U.to ≤ (ps.place i).along.to → U.from ≤ (ps.place i).along.from → (ps.place i).along.from < U.to + g → Holds ps R i → Solid g ps (slice (record { from = U.from; to = (ps.place i).along.to }) R)
 solid_grows g ps R U i sol le lo lt h p c = go (sol p (λ j hj. c j (hj.0, ((omega arith, omega arith), hj.1.1)))) (c i (omega arith))
@@ -78,7 +82,7 @@ remains_more {g = g} {ps = ps} {n = suc s} {R = R} {rest = rest} {u = u} lt z gr
     }
 
 -- one that does not is the end of it
-remains_stuck : {g : ℕ} {ps : Pieces} {n : ℕ} {R rest : Rect} {u : Span} → 0 < n → Group g ps rest u → Remains g ps n R rest → Apart Exact g ps n R → Apart Exact g (all_swapped ps) (n - 1) (swapped (slice u rest))
+pub remains_stuck : {g : ℕ} {ps : Pieces} {n : ℕ} {R rest : Rect} {u : Span} → 0 < n → Group g ps rest u → Remains g ps n R rest → Apart Exact g ps n R → Apart Exact g (all_swapped ps) (n - 1) (swapped (slice u rest))
 remains_stuck {n = zero} lt gr m a = absurd (omega arith)
 remains_stuck {n = suc s} lt gr m a =
     let w = m.within in

@@ -1,12 +1,13 @@
 -- Sound rows, their places, and the one verdict that a plate gets.
-use Rattle.std.proofs.Common.{◌≡◌, ℕ, ◌<◌, Bool, true, false, ◌⊎◌, List, length as size, get_or, map, Decides, sym, subst, inl, inr, arith}
+use Rattle.std.proofs.Common.{◌≡◌, ℕ, zero, suc, ◌+◌, ◌<◌, All, Bool, true, false, ◌⊎◌, List, length as size, get_or, map, Decides, sym, subst, inl, inr, arith}
 use native.Mathlib.Decide.{dec_lt}
 use Rattle.std.proofs.lemmas.List.{length-map, get_or-map}
+use Rattle.std.proofs.lemmas.List.Elements.{All-get_or}
 use Rattle.std.proofs.lemmas.Bool.Decides.{Decides-like}
 use Rattle.layout.specs.declared.panel.Panel.{Panel}
 use Rattle.layout.specs.declared.row.Row.{Row}
 use Rattle.layout.specs.declared.rect.Rect.{Rect}
-use Rattle.layout.specs.Pieces.{blank, panel_of}
+use Rattle.layout.specs.Pieces.{blank, no_panel, panel_of, along, across, end, top}
 use Rattle.layout.specs.Apart.{swapped, Inside, Exact, Apart, plate}
 use Rattle.layout.specs.Places.{pieces, place_of}
 use Rattle.layout.proofs.Carrying.{exact_fair}
@@ -14,7 +15,7 @@ use Rattle.layout.proofs.Laws.{same_places}
 use Rattle.inspection.specs.declared.places.Direction.TheVariants.{Length, Width}
 use Rattle.inspection.specs.Directions.{no_rect, placed}
 use Rattle.inspection.specs.Soundness.{Sound, AllSound, HasPlaces}
-use Rattle.inspection.specs.Verdicts.{Plate, Faulty, NoneFaulty, FirstFaulty, PlateApart, Judged, Finding}
+use Rattle.inspection.specs.Verdicts.{Plate, LawfulPanel, Faulty, NoneFaulty, FirstFaulty, PlateApart, Judged, Finding}
 
 true_not_false : {b : Bool} → b ≡ true → b ≡ false → ⊥
 true_not_false t f = let z : ◌≡◌ {A = ℕ} 0 1 = cc in omega arith
@@ -56,6 +57,14 @@ one_verdict p v k w j (inr (inr a)) (inr (inr b)) = (omega (arith, a.0, b.0), om
 
 pub found : (p : Plate) (v k : ℕ) → Judged p v k → Finding p v k
 found p v k h = record { holds = h; only = λ w j o. one_verdict p v k w j h o }
+
+-- lawful kinds give pieces with some length and some width
+pub lawful_size : (kinds : List Panel) → All LawfulPanel kinds → (r : Row) → r.kind < size kinds → (r.x < end kinds r) × (r.y < top kinds r)
+lawful_size kinds lawful r lt = go r.turned (All-get_or LawfulPanel kinds r.kind no_panel lt lawful)
+  where
+    go : (t : ℕ) → LawfulPanel (panel_of kinds r) → (r.x < r.x + along (panel_of kinds r) t) × (r.y < r.y + across (panel_of kinds r) t)
+    go zero h = (omega (arith, h.0.0), omega (arith, h.1.0))
+    go (suc n) h = (omega (arith, h.1.0), omega (arith, h.0.0))
 
 -- the places of the rows, one for each
 pub row_places : (p : Plate) → (size (map (place_of p.kinds) p.rows) ≡ size p.rows) × HasPlaces p (map (place_of p.kinds) p.rows) (size p.rows)

@@ -1,5 +1,6 @@
 pub mod Tables
 pub mod Tasks
+pub mod KindLists
 pub mod Variants
 pub mod Carrying
 pub mod Laws

@@ -92,10 +92,18 @@ too_wide g m small (inr (inr (i, lt, beyond))) h =
 abbrev panel_with : ℕ → ℕ → Kind → Kind
 panel_with l w k = record { panel = record { length = l; width = w; may_turn = k.panel.may_turn }; value = k.value; wanted = k.wanted }
 
--- within the limits no field is too small for the sum
-pub stretched_is_widened : (g : ℕ) (kinds : List Kind) → EachKind LawfulSides (map (with_panel (widened_panel g)) kinds) → map (with_panel (stretched_panel g)) kinds ≡ map (with_panel (widened_panel g)) kinds
-stretched_is_widened g kinds lawful =
+-- within the greatest side no field is too small for the sum
+pub stretched_is_widened : (g : ℕ) (kinds : List Kind) → g ≤ 3200 → EachKind (KindWithin (3200 - g)) kinds → map (with_panel (stretched_panel g)) kinds ≡ map (with_panel (widened_panel g)) kinds
+stretched_is_widened g kinds small within =
     same_map (with_panel (stretched_panel g)) (with_panel (widened_panel g)) kinds
-    (λ i lt. let sides = each_unmap LawfulSides (with_panel (widened_panel g)) kinds lawful i lt in
+    (λ i lt. let w = within i lt in
     let k = get_or kinds i no_kind in
-    ap (λ l. panel_with l (stretched_panel g k.panel).width k) (omega (arith, sides.0.1)) ∙ ap (λ n. panel_with (k.panel.length + g) n k) (omega (arith, sides.1.1)))
+    ap (λ l. panel_with l (stretched_panel g k.panel).width k) (omega (arith, w.0)) ∙ ap (λ n. panel_with (k.panel.length + g) n k) (omega (arith, w.1)))
+
+-- and so it is where the widened kinds keep to the limits
+pub stretched_within_limits : (g : ℕ) (kinds : List Kind) → EachKind LawfulSides (map (with_panel (widened_panel g)) kinds) → map (with_panel (stretched_panel g)) kinds ≡ map (with_panel (widened_panel g)) kinds
+stretched_within_limits g [] lawful = refl
+stretched_within_limits g (k ∷ kinds) lawful =
+    let sides = each_unmap LawfulSides (with_panel (widened_panel g)) (k ∷ kinds) lawful in
+    let first = sides 0 (omega arith) in
+    stretched_is_widened g (k ∷ kinds) (omega (arith, first.0.1)) (λ i lt. let at = sides i lt in (omega (arith, at.0.1), omega (arith, at.1.1)))

@@ -1,6 +1,6 @@
 -- What a layer answers and leaves in the rows, from what the rule below answered. The lemmas are over plain lists, so that a layer's proof cites them.
-use Rattle.std.specs.Prelude.{◌≡◌, ℕ, ◌-◌, ◌≤◌, Bool, true, false, if◌then◌else◌, nat_lt, List, [], ◌++◌, map, length as size, take, drop, replicate}
-use Rattle.std.proofs.Common.{sym, ap, refl, subst, ◌∙◌, inl, inr, arith}
+use Rattle.std.specs.Prelude.{◌≡◌, ℕ, ◌-◌, ◌<◌, ◌≤◌, Bool, true, false, if◌then◌else◌, nat_lt, List, [], ◌++◌, map, length as size, take, drop, replicate}
+use Rattle.std.proofs.Common.{sym, ap, refl, subst, ◌∙◌, inl, inr, arith, lt-ltb, le-ltb}
 use Rattle.std.proofs.lemmas.List.{length-map, length-append, length-replicate, take_all, take_at, drop_at, drop_all, append_assoc}
 use Rattle.layout.proofs.Tasks.{within_limits}
 use Rattle.layout.specs.declared.refusal.Refusal.{Refusal}
@@ -87,9 +87,32 @@ wrote_changed change named {low = low} {old = old} {mid = mid} {b = b} same belo
       worth_is = here.worth_is ∙ sym w;
     }
 
+front_long : (pattern : List Row) → size pattern ≤ 4096 → size (pattern ++ replicate (4096 - size pattern) blank) ≡ 4096
+front_long pattern few = omega (arith, length-append pattern (replicate (4096 - size pattern) blank), length-replicate (4096 - size pattern) blank)
+
+grouped : (pattern old : List Row) → written pattern old ≡ (pattern ++ replicate (4096 - size pattern) blank) ++ drop 4096 old
+grouped pattern old = sym (append_assoc pattern (replicate (4096 - size pattern) blank) (drop 4096 old))
+
+-- the first 4,096 rows with one pattern copied over those with another
+pub copied : (one two old fresh mid other new : List Row) → mid ≡ written one old → other ≡ written two fresh → size one ≤ 4096 → size two ≤ 4096 → new ≡ take 4096 other ++ drop 4096 mid → new ≡ written two old
+copied one two old fresh mid other new e₁ e₂ few₁ few₂ h =
+    h
+    ∙ ap (λ xs. take 4096 xs ++ drop 4096 mid) (e₂ ∙ grouped two fresh)
+    ∙ ap (λ xs. xs ++ drop 4096 mid) (take_at (two ++ replicate (4096 - size two) blank) (drop 4096 fresh) 4096 (front_long two few₂))
+    ∙ ap (λ xs. (two ++ replicate (4096 - size two) blank) ++ drop 4096 xs) (e₁ ∙ grouped one old)
+    ∙ ap (λ xs. (two ++ replicate (4096 - size two) blank) ++ xs) (drop_at (one ++ replicate (4096 - size one) blank) (drop 4096 old) 4096 (front_long one few₁))
+    ∙ sym (grouped two old)
+
+-- the second is chosen where it is worth more, else the first
+pub second_chosen : (w₁ w₂ : ℕ) (one two : List Row) → w₁ < w₂ → (if nat_lt w₁ w₂ then two else one) ≡ two
+second_chosen w₁ w₂ one two lt = ap (λ b. if b then two else one) (lt-ltb w₁ w₂ lt)
+
+pub first_chosen : (w₁ w₂ : ℕ) (one two : List Row) → w₂ ≤ w₁ → (if nat_lt w₁ w₂ then two else one) ≡ one
+first_chosen w₁ w₂ one two le = ap (λ b. if b then two else one) (le-ltb w₁ w₂ le)
+
 -- a pattern written to fresh rows, all of which are copied over those with another
-copied : (one two old fresh : List Row) → size one ≤ 4096 → size fresh ≤ 4096 → written two fresh ++ drop 4096 (written one old) ≡ written two old
-copied one two old fresh few short =
+copied_whole : (one two old fresh : List Row) → size one ≤ 4096 → size fresh ≤ 4096 → written two fresh ++ drop 4096 (written one old) ≡ written two old
+copied_whole one two old fresh few short =
     let front = one ++ replicate (4096 - size one) blank in
     let rest = replicate (4096 - size two) blank in
     let long : size front ≡ 4096 = omega (arith, length-append one (replicate (4096 - size one) blank), length-replicate (4096 - size one) blank) in
@@ -111,5 +134,5 @@ wrote_better one two {m = m} {old = old} {mid = mid} {fresh = fresh} {other = ot
     same = ap (λ w. nat_lt w second.worth) f.worth_is ∙ ap (nat_lt (worth m (one m))) s.worth_is
 
     by : (t : Bool) → Wrote m (if t then two m else one m) old (if t then take 4096 other ++ drop 4096 mid else mid) (if t then second else first)
-    by true = record { rows = ap (λ xs. xs ++ drop 4096 mid) (take_all 4096 other whole ∙ s.rows) ∙ ap (λ xs. written (two m) fresh ++ drop 4096 xs) f.rows ∙ copied (one m) (two m) old fresh few short; count = s.count; worth_is = s.worth_is }
+    by true = record { rows = ap (λ xs. xs ++ drop 4096 mid) (take_all 4096 other whole ∙ s.rows) ∙ ap (λ xs. written (two m) fresh ++ drop 4096 xs) f.rows ∙ copied_whole (one m) (two m) old fresh few short; count = s.count; worth_is = s.worth_is }
     by false = f

@@ -11,7 +11,7 @@ module _ {X : Type 0} (f : X → List ℕ) where
   lines_append (x ∷ xs) ys = ap (λ z. f x ++ z) (lines_append xs ys) ∙ sym (append_assoc (f x) (lines f xs) (lines f ys))
 
   -- one line more
-  lines_push : (xs : List X) (x : X) (t rest after : List ℕ) → t ≡ lines f xs ++ rest → rest ≡ f x ++ after → t ≡ lines f (xs ++ (x ∷ [])) ++ after
+  pub lines_push : (xs : List X) (x : X) (t rest after : List ℕ) → t ≡ lines f xs ++ rest → rest ≡ f x ++ after → t ≡ lines f (xs ++ (x ∷ [])) ++ after
   lines_push xs x t rest after e g = e ∙ ap (λ z. lines f xs ++ z) g ∙ simp (append_assoc, lines_append, append-nil)
 
   module _ (some : (x : X) → 0 < length (f x)) where

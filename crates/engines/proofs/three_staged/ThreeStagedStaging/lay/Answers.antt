@@ -11,7 +11,7 @@ dividing-c-requires-clause-small c =
     let n = c.of-numbers.ensures in
     let few : length (numbers m) ≤ 64 = omega (arith, ap length n.list, c.of-numbers.result.stock.few) in
     let filled = rw (n.length, n.width, n.list) at c.segment_worths.ensures in
-    λ j h. omega (arith, filled j (omega (arith, n.length)), segment_small m n.limits few j (omega (arith, n.length)))
+    λ j h. omega (arith, filled j (omega (arith, n.length)), segment_small m n.limits few j (omega (arith, n.length, n.limits.plate)))
 
 pub lay_segment-left-requires-clause-room : goal.lay_segment-left-requires-clause-room
 lay_segment-left-requires-clause-room c =
@@ -41,8 +41,8 @@ overflow_add-result-2 c =
     let r = c.dividing-c.result in
     let on_left = rw (c.left_of.ensures, n.width, n.list) at c.lay_segment-left.ensures.worth in
     let on_right = rw (c.right_of-segment.ensures, n.length, n.width, n.list) at c.lay_segment-right.ensures.worth in
-    let left : c.lay_segment-left.result.worth ≤ 1_000_000_000_000 = omega (arith, on_left, segment_small m n.limits few r (omega (arith, c.dividing-c.ensures.within, n.length))) in
-    let right : c.lay_segment-right.result.worth ≤ 1_000_000_000_000 = omega (arith, on_right, segment_small m n.limits few (m.length - r) (omega arith)) in
+    let left : c.lay_segment-left.result.worth ≤ 1_000_000_000_000 = omega (arith, on_left, segment_small m n.limits few r (omega (arith, c.dividing-c.ensures.within, n.length, n.limits.plate))) in
+    let right : c.lay_segment-right.result.worth ≤ 1_000_000_000_000 = omega (arith, on_right, segment_small m n.limits few (m.length - r) (omega (arith, n.limits.plate))) in
     search rules
 
 pub returns-clause-written : goal.returns-clause-written
