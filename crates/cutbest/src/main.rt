@@ -50,7 +50,6 @@ fn print_row(rt: HostRuntime, row: &Row) -> io::Result<()> {
     )
 }
 
-// Work memory and rows are lent, so that both rules have the same.
 fn print_best<R: Rule>(
     rt: HostRuntime,
     name: &str,
@@ -69,6 +68,15 @@ fn print_best<R: Rule>(
     Ok(())
 }
 
+// What both rules name. They are lent the same memory; not inlined, so that an order that is refused asks for none of it.
+#[inline(never)]
+fn print_both(rt: HostRuntime, task: &Task) -> io::Result<()> {
+    let mut work = [1; WORDS];
+    let mut rows = [BLANK; ROWS];
+    print_best(rt, "two-staged", &TwoStaged, task, &mut work, &mut rows)?;
+    print_best(rt, "three-staged", &ThreeStaged, task, &mut work, &mut rows)
+}
+
 fn main(rt: HostRuntime) -> io::Result<()> {
     let heap = rt.alloc();
     let mut text = Vec::new(heap);
@@ -79,15 +87,5 @@ fn main(rt: HostRuntime) -> io::Result<()> {
     let task = task_of(&order).ok_or_else(|| io::Error::other(
         "the order is beyond the limits of a task",
     ))?;
-    let mut work = [1; WORDS];
-    let mut rows = [BLANK; ROWS];
-    print_best(rt, "two-staged", &TwoStaged, &task, &mut work, &mut rows)?;
-    print_best(
-        rt,
-        "three-staged",
-        &ThreeStaged,
-        &task,
-        &mut work,
-        &mut rows,
-    )
+    print_both(rt, &task)
 }

@@ -66,6 +66,10 @@ module _ (m : Model) (ok : WithinLimits m) where
       side_is m place (segment_at by_value m place).strips (segment_at by_value m (m.length - place)).strips
       (all_each (λ st x. x.0) (segment_at by_value m place).strips (three_chosen m ok place).each)
 
+  -- the rows of the left segment are no more than all
+  pub left_few : length (left_rows place) ≤ 4096
+  left_few = omega (arith, ap length sides_are, length-append (left_rows place) (right_rows place (length (left_rows place))), three_few)
+
   module _ (few : length (numbers m) ≤ 64) where
     -- a segment has at most 4,096 pieces
     pub segment_small : (l : ℕ) → l ≤ 3200 → uniform_worth l m.width (numbers m) ≤ 1_000_000_000_000
@@ -93,8 +97,8 @@ module _ (m : Model) (ok : WithinLimits m) where
     pub both_rows : left_rows r ++ right_rows r (length (left_rows r)) ≡ three_staged_pattern by_value m
     both_rows = subst (λ c. left_rows c ++ right_rows c (length (left_rows c)) ≡ three_staged_pattern by_value m) (sym place_is) sides_are
 
-    pub left_few : length (left_rows r) ≤ 4096
-    left_few = omega (arith, ap length both_rows, length-append (left_rows r) (right_rows r (length (left_rows r))), three_few)
+    pub left_few_at : length (left_rows r) ≤ 4096
+    left_few_at = subst (λ c. length (left_rows c) ≤ 4096) (sym place_is) left_few
 
     pub both_few : (before : ℕ) → before ≡ length (left_rows r) → before + length (right_rows r before) ≤ 4096
     both_few before is = omega (arith, is, ap (λ k. length (right_rows r k)) is, ap length both_rows, length-append (left_rows r) (right_rows r (length (left_rows r))), three_few)

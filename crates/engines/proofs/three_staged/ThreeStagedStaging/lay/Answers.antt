@@ -2,7 +2,7 @@ use Rattle.std.proofs.Common.{◌-◌, ◌≤◌, length, drop, ap, arith, rules
 use Rattle.std.proofs.lemmas.List.{length-take-le, length-drop}
 use Rattle.layout.specs.Models.{model}
 use Rattle.patterns.specs.Numbers.{numbers}
-use Rattle.engines.proofs.ThreePattern.{left_few, both_few, both_written, both_worths, segment_small}
+use Rattle.engines.proofs.ThreePattern.{left_few_at, both_few, both_written, both_worths, segment_small}
 use Rattle.engines.proofs.three_staged.ThreeStagedStaging.lay.Goals as goal
 
 pub dividing-c-requires-clause-small : goal.dividing-c-requires-clause-small
@@ -19,7 +19,7 @@ lay_segment-left-requires-clause-room c =
     let n = c.of-numbers.ensures in
     let filled = rw (n.length, n.width, n.list) at c.segment_worths.ensures in
     let chosen = rw n.length at c.dividing-c.ensures in
-    rw (c.left_of.ensures, n.width, n.list) (omega (arith, left_few m n.limits c.segment_worths.new.worths filled c.dividing-c.result chosen, c.requires.places))
+    rw (c.left_of.ensures, n.width, n.list) (omega (arith, left_few_at m n.limits c.segment_worths.new.worths filled c.dividing-c.result chosen, c.requires.places))
 
 pub lay_segment-right-requires-clause-room : goal.lay_segment-right-requires-clause-room
 lay_segment-right-requires-clause-room c =
