@@ -87,9 +87,11 @@ wrote_changed change named {low = low} {old = old} {mid = mid} {b = b} same belo
       worth_is = here.worth_is ∙ sym w;
     }
 
+-- a pattern with the blanks after it fills 4,096 rows
 front_long : (pattern : List Row) → size pattern ≤ 4096 → size (pattern ++ replicate (4096 - size pattern) blank) ≡ 4096
 front_long pattern few = omega (arith, length-append pattern (replicate (4096 - size pattern) blank), length-replicate (4096 - size pattern) blank)
 
+-- and stands with them before the rows that are left as they were
 grouped : (pattern old : List Row) → written pattern old ≡ (pattern ++ replicate (4096 - size pattern) blank) ++ drop 4096 old
 grouped pattern old = sym (append_assoc pattern (replicate (4096 - size pattern) blank) (drop 4096 old))
 
@@ -115,9 +117,9 @@ copied_whole : (one two old fresh : List Row) → size one ≤ 4096 → size fre
 copied_whole one two old fresh few short =
     let front = one ++ replicate (4096 - size one) blank in
     let rest = replicate (4096 - size two) blank in
-    let long : size front ≡ 4096 = omega (arith, length-append one (replicate (4096 - size one) blank), length-replicate (4096 - size one) blank) in
+    let long : size front ≡ 4096 = front_long one few in
     ap (λ xs. (two ++ (rest ++ xs)) ++ drop 4096 (written one old)) (drop_all 4096 fresh short)
-    ∙ ap (λ xs. (two ++ (rest ++ [])) ++ drop 4096 xs) (sym (append_assoc one (replicate (4096 - size one) blank) (drop 4096 old)))
+    ∙ ap (λ xs. (two ++ (rest ++ [])) ++ drop 4096 xs) (grouped one old)
     ∙ ap (λ xs. (two ++ (rest ++ [])) ++ xs) (drop_at front (drop 4096 old) 4096 long)
     ∙ append_assoc two (rest ++ []) (drop 4096 old)
     ∙ ap (λ xs. two ++ xs) (append_assoc rest [] (drop 4096 old))
